@@ -1,0 +1,13 @@
+-- `mssp::load` meets its contract.
+-- Assumes nothing.
+use borrow.Author.Needs.{needs}
+use Rattle.mssp.proofs.load.Statement.{statement}
+use Rattle.mssp.proofs.load.Tie as tie
+
+pub load-spec : {M : Type 1} → statement M
+load-spec =
+    tie.close
+    (tie.spec
+    (λ c κs. search needs)
+    (λ c κs. search needs)
+    (λ c. simp (c .before .pick-byte .ensures, c .before .before .before .before .before .before .is-held-for-sending .ensures)))

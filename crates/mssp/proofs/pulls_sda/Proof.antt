@@ -1,0 +1,27 @@
+-- `mssp::pulls_sda` meets its contract.
+-- Assumes nothing.
+use borrow.Author.Needs.{needs}
+use Rattle.mssp.proofs.pulls_sda.Statement.{statement}
+use Rattle.mssp.proofs.pulls_sda.Tie as tie
+
+pub pulls-sda-spec : {M : Type 1} → statement M
+pulls-sda-spec =
+    tie.close
+    (tie.spec
+    (λ c. search needs)
+    (λ c. search needs)
+    (λ c. search needs)
+    (λ c. search needs)
+    (λ c. search needs)
+    (λ c. search needs)
+    (λ c. search needs)
+    (λ c κs. search needs)
+    (λ c. search needs)
+    (λ c. search needs)
+    (λ c. search needs)
+    (λ c. search needs)
+    (λ c. search needs)
+    (λ c. search needs)
+    (λ c. search needs)
+    (λ c. simp (c .before .before .phase2 .given .1) (c .is-zero-at .ensures))
+    (λ c. search needs))

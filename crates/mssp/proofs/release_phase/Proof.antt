@@ -1,0 +1,26 @@
+-- `mssp::release_phase` meets its contract.
+-- Assumes nothing.
+use borrow.Author.Needs.{needs}
+use Rattle.mssp.proofs.release_phase.Statement.{statement}
+use Rattle.mssp.proofs.release_phase.Tie as tie
+
+pub release-phase-spec : {M : Type 1} → statement M
+release-phase-spec =
+    tie.close
+    (tie.spec
+    (λ c. search needs)
+    (λ c. search needs)
+    (λ c. search needs)
+    (λ c. search needs)
+    (λ c. search needs)
+    (λ c. search needs)
+    (λ c. search needs)
+    (λ c. search needs)
+    (λ c. search needs)
+    (λ c. search needs)
+    (λ c. simp (c .before .phase .given .1))
+    (λ c. simp (c .before .phase2 .given .1))
+    (λ c. search needs)
+    (λ c. simp (c .enum-told4 .given .1))
+    (λ c. search needs)
+    (λ c. search needs))

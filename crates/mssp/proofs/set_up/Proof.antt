@@ -1,0 +1,12 @@
+-- `mssp::set_up` meets its contract.
+-- Assumes nothing.
+use borrow.Author.Needs.{needs}
+use Rattle.mssp.proofs.set_up.Statement.{statement}
+use Rattle.mssp.proofs.set_up.Tie as tie
+
+pub set-up-spec : {M : Type 1} → statement M
+set-up-spec =
+    tie.close
+    (tie.spec
+    (λ c κs. search needs)
+    (λ c. simp (c .before .before .before .before .before .before .fresh-module .ensures)))

@@ -1,0 +1,39 @@
+-- What reading BUF, writing BUF and setting CKP do to the module (01, "Register numbers" and "From levels to bytes").
+-- The registers and the handler both act through these.
+-- Assumes nothing.
+use Prim.Native.Nat.{ℕ}
+use mathlib.Core.Bool.{Bool, true, false, cond, _||_, not}
+use Rattle.mssp.specs.declared.Phase.{Phase}
+use Rattle.mssp.specs.declared.Phase.the-variants.{Quiet, Address, Data, HeldBefore, Slot, HeldForSending, Sending, MasterAcknowledge}
+use Rattle.mssp.specs.declared.Module.{Module}
+use Rattle.mssp.specs.Module.{moduleOf, setBF, setBUF, setCKP, setWCOL}
+use Rattle.mssp.specs.Drivers.{heldForSending}
+
+-- A read of BUF clears BF.
+abbrev pub emptied : Module → Module
+emptied m = moduleOf (m .config) (setBF false (m .live)) (m .phase) (m .line)
+
+-- A write to BUF takes effect, with BF, while the clock is held for sending; else it sets WCOL and no more.
+abbrev pub loadedIf : Bool → ℕ → Module → Module
+loadedIf held byte m =
+    moduleOf (setWCOL (m .config .wcol || not held) (m .config))
+    (setBF (m .live .bf || held) (setBUF (cond held byte (m .live .buf)) (m .live)))
+    (m .phase) (m .line)
+
+abbrev pub loaded : ℕ → Module → Module
+loaded byte m = loadedIf (heldForSending (m .phase)) byte m
+
+-- CKP = 1 ends a hold: before data the bits come, before an acknowledge the slot follows, pulling unless refused or
+-- declined by ACKDT; before sending the byte in BUF goes out.
+abbrev pub releasedPhase : Bool → ℕ → Phase → Phase
+releasedPhase ackdt buf Quiet = Quiet
+releasedPhase ackdt buf (Address bits) = Address bits
+releasedPhase ackdt buf (Data bits held) = Data bits false
+releasedPhase ackdt buf (HeldBefore refused) = Slot (not (refused || ackdt))
+releasedPhase ackdt buf (Slot pulling) = Slot pulling
+releasedPhase ackdt buf HeldForSending = Sending buf 0
+releasedPhase ackdt buf (Sending byte place) = Sending byte place
+releasedPhase ackdt buf MasterAcknowledge = MasterAcknowledge
+
+abbrev pub released : Module → Module
+released m = moduleOf (m .config) (setCKP true (m .live)) (releasedPhase (m .config .ackdt) (m .live .buf) (m .phase)) (m .line)

@@ -1,0 +1,4 @@
+pub mod Module
+pub mod Drivers
+pub mod Effects
+pub mod Valid

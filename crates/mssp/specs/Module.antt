@@ -1,0 +1,105 @@
+-- The module's state (01, "Register numbers" and "From levels to bytes"): its makers, one setter for each bit that a rule
+-- changes, the fresh state and the set-up one. A field more is a field more here and nowhere else.
+-- Assumes nothing.
+use Prim.Native.Nat.{ℕ}
+use mathlib.Core.Bool.{Bool, true, false, _&&_, not}
+use Rattle.wire.specs.declared.Line.{Line}
+use Rattle.wire.specs.Wire.{unseen}
+use Rattle.mssp.specs.declared.Config.{Config}
+use Rattle.mssp.specs.declared.Live.{Live}
+use Rattle.mssp.specs.declared.Phase.{Phase}
+use Rattle.mssp.specs.declared.Phase.the-variants.{Quiet}
+use Rattle.mssp.specs.declared.Module.{Module}
+
+-- ---- what edges change, bit by bit: the others stay
+abbrev pub liveOf : Bool → Bool → Bool → Bool → Bool → Bool → Bool → Bool → Bool → Bool → ℕ → Live
+liveOf s p da rw bf sspov ckp ackstat acktim sspif buf =
+    record { s = s; p = p; da = da; rw = rw; bf = bf; sspov = sspov; ckp = ckp; ackstat = ackstat; acktim = acktim; sspif = sspif; buf = buf }
+
+abbrev pub setS : Bool → Live → Live
+setS v l =
+    liveOf v (l .p) (l .da) (l .rw) (l .bf) (l .sspov) (l .ckp) (l .ackstat) (l .acktim) (l .sspif) (l .buf)
+
+abbrev pub setP : Bool → Live → Live
+setP v l =
+    liveOf (l .s) v (l .da) (l .rw) (l .bf) (l .sspov) (l .ckp) (l .ackstat) (l .acktim) (l .sspif) (l .buf)
+
+abbrev pub setDA : Bool → Live → Live
+setDA v l =
+    liveOf (l .s) (l .p) v (l .rw) (l .bf) (l .sspov) (l .ckp) (l .ackstat) (l .acktim) (l .sspif) (l .buf)
+
+abbrev pub setRW : Bool → Live → Live
+setRW v l =
+    liveOf (l .s) (l .p) (l .da) v (l .bf) (l .sspov) (l .ckp) (l .ackstat) (l .acktim) (l .sspif) (l .buf)
+
+abbrev pub setBF : Bool → Live → Live
+setBF v l =
+    liveOf (l .s) (l .p) (l .da) (l .rw) v (l .sspov) (l .ckp) (l .ackstat) (l .acktim) (l .sspif) (l .buf)
+
+abbrev pub setSSPOV : Bool → Live → Live
+setSSPOV v l =
+    liveOf (l .s) (l .p) (l .da) (l .rw) (l .bf) v (l .ckp) (l .ackstat) (l .acktim) (l .sspif) (l .buf)
+
+abbrev pub setCKP : Bool → Live → Live
+setCKP v l =
+    liveOf (l .s) (l .p) (l .da) (l .rw) (l .bf) (l .sspov) v (l .ackstat) (l .acktim) (l .sspif) (l .buf)
+
+abbrev pub setACKSTAT : Bool → Live → Live
+setACKSTAT v l =
+    liveOf (l .s) (l .p) (l .da) (l .rw) (l .bf) (l .sspov) (l .ckp) v (l .acktim) (l .sspif) (l .buf)
+
+abbrev pub setACKTIM : Bool → Live → Live
+setACKTIM v l =
+    liveOf (l .s) (l .p) (l .da) (l .rw) (l .bf) (l .sspov) (l .ckp) (l .ackstat) v (l .sspif) (l .buf)
+
+abbrev pub setSSPIF : Bool → Live → Live
+setSSPIF v l =
+    liveOf (l .s) (l .p) (l .da) (l .rw) (l .bf) (l .sspov) (l .ckp) (l .ackstat) (l .acktim) v (l .buf)
+
+abbrev pub setBUF : ℕ → Live → Live
+setBUF v l =
+    liveOf (l .s) (l .p) (l .da) (l .rw) (l .bf) (l .sspov) (l .ckp) (l .ackstat) (l .acktim) (l .sspif) v
+
+-- ---- what the registers hold and no edge changes
+abbrev pub configOf : Bool → Bool → Bool → Bool → Bool → Bool → Bool → Bool → Bool → Bool → Bool → Bool → Bool → Bool → Bool → Bool → Bool → ℕ → ℕ → Config
+configOf smp cke wcol sspen sspm3 sspm2 sspm1 sspm0 gcen ackdt sen pcie scie sdaht sbcde ahen dhen add msk =
+    record { smp = smp; cke = cke; wcol = wcol; sspen = sspen; sspm3 = sspm3; sspm2 = sspm2; sspm1 = sspm1; sspm0 = sspm0; gcen = gcen; ackdt = ackdt; sen = sen; pcie = pcie; scie = scie; sdaht = sdaht; sbcde = sbcde; ahen = ahen; dhen = dhen; add = add; msk = msk }
+
+abbrev pub setWCOL : Bool → Config → Config
+setWCOL v c =
+    configOf (c .smp) (c .cke) v (c .sspen) (c .sspm3) (c .sspm2) (c .sspm1) (c .sspm0) (c .gcen) (c .ackdt) (c .sen) (c .pcie) (c .scie) (c .sdaht) (c .sbcde) (c .ahen) (c .dhen) (c .add) (c .msk)
+
+abbrev pub setADD : ℕ → Config → Config
+setADD v c =
+    configOf (c .smp) (c .cke) (c .wcol) (c .sspen) (c .sspm3) (c .sspm2) (c .sspm1) (c .sspm0) (c .gcen) (c .ackdt) (c .sen) (c .pcie) (c .scie) (c .sdaht) (c .sbcde) (c .ahen) (c .dhen) v (c .msk)
+
+abbrev pub setMSK : ℕ → Config → Config
+setMSK v c =
+    configOf (c .smp) (c .cke) (c .wcol) (c .sspen) (c .sspm3) (c .sspm2) (c .sspm1) (c .sspm0) (c .gcen) (c .ackdt) (c .sen) (c .pcie) (c .scie) (c .sdaht) (c .sbcde) (c .ahen) (c .dhen) (c .add) v
+
+-- SSPM 0110 and 1110 are the modes that are modelled; the second interrupts at Start and Stop.
+abbrev pub modelled : Bool → Bool → Bool → Bool → Bool
+modelled sspm3 sspm2 sspm1 sspm0 = sspm2 && sspm1 && not sspm0
+
+abbrev pub interrupting : Config → Bool
+interrupting c = c .sspm3 && modelled (c .sspm3) (c .sspm2) (c .sspm1) (c .sspm0)
+
+-- ---- the module
+abbrev pub moduleOf : Config → Live → Phase → Line → Module
+moduleOf c l ph line = record { config = c; live = l; phase = ph; line = line }
+
+-- Fresh: all 0, MSK FF, quiet, no wire remembered.
+abbrev pub fresh : Module
+fresh =
+    moduleOf
+    (configOf false false false false false false false false false false false false false false false false false 0 255)
+    (liveOf false false false false false false false false false false 0)
+    Quiet unseen
+
+-- Set up by the handler with an ADD (01, "Handler and plain device"): CON1 36, CON2 01, CON3 00, MSK FF.
+abbrev pub chosen : ℕ → Config
+chosen add =
+    configOf false false false true false true true false false false true false false false false false false add 255
+
+abbrev pub setup : ℕ → Module
+setup add = moduleOf (chosen add) (setCKP true (fresh .live)) Quiet unseen

@@ -1,0 +1,28 @@
+-- `sampling::on_rise` meets its contract: each arm knows its phase.
+-- Assumes nothing.
+use borrow.Author.Needs.{needs}
+use Rattle.sampling.proofs.on_rise.Statement.{statement}
+use Rattle.sampling.proofs.on_rise.Tie as tie
+
+pub on-rise-spec : {M : Type 1} → statement M
+on-rise-spec =
+    tie.close
+    (tie.spec
+    (λ c. search needs)
+    (λ c. search needs)
+    (λ c κs. search needs)
+    (λ c. search needs)
+    (λ c κs. search needs)
+    (λ c. search needs)
+    (λ c. search needs)
+    (λ c. search needs)
+    (λ c. search needs)
+    (λ c. search needs)
+    (λ c. simp (c .enum-told .given .1))
+    (λ c. simp (c .before .before .phase .given .1, c .push .ensures))
+    (λ c. simp (c .before .before .phase2 .given .1, c .data-rise .ensures))
+    (λ c. simp (c .enum-told2 .given .1))
+    (λ c. simp (c .enum-told3 .given .1))
+    (λ c. simp (c .enum-told4 .given .1))
+    (λ c. simp (c .enum-told5 .given .1))
+    (λ c. simp (c .enum-told6 .given .1)))

@@ -1,0 +1,14 @@
+-- `sampling::sample` meets its contract.
+-- Assumes nothing.
+use borrow.Author.Needs.{needs}
+use Rattle.sampling.proofs.sample.Statement.{statement}
+use Rattle.sampling.proofs.sample.Tie as tie
+
+pub sample-spec : {M : Type 1} → statement M
+sample-spec =
+    tie.close
+    (tie.spec
+    (λ c κs. search needs)
+    (λ c κs. search needs)
+    (λ c κs. search needs)
+    (λ c. simp (← c .before .before .pulls-scl .ensures, ← c .before .pulls-sda .ensures) (c .see .ensures)))

@@ -1,0 +1,141 @@
+-- The rules of 01, "From levels to bytes", in its order: one definition for each, named after what has happened.
+-- Assumes nothing.
+use Prim.Native.Nat.{ℕ, _+_}
+use mathlib.Core.Bool.{Bool, true, false, cond, _||_, _&&_, not}
+use lib.Dec.{ltb}
+use Rattle.wire.specs.declared.Bits.{Bits}
+use Rattle.wire.specs.declared.Edge.{Edge}
+use Rattle.wire.specs.declared.Edge.the-variants.{Still, Start, Stop, Rise, Fall}
+use Rattle.wire.specs.Byte.{bit, none, pushed, whole}
+use Rattle.wire.specs.Wire.{edgeOf, lineAfter, onWire}
+use Rattle.address.specs.Match.{matching}
+use Rattle.mssp.specs.declared.Config.{Config}
+use Rattle.mssp.specs.declared.Live.{Live}
+use Rattle.mssp.specs.declared.Phase.{Phase}
+use Rattle.mssp.specs.declared.Phase.the-variants.{Quiet, Address, Data, HeldBefore, Slot, HeldForSending, Sending, MasterAcknowledge}
+use Rattle.mssp.specs.declared.Module.{Module}
+use Rattle.mssp.specs.Module.{moduleOf, interrupting, setS, setP, setDA, setRW, setBF, setSSPOV, setCKP, setACKSTAT, setACKTIM, setSSPIF, setBUF}
+use Rattle.mssp.specs.Drivers.{sclPulled, sdaPulled, isSending}
+use Rattle.sampling.specs.declared.Moved.{Moved}
+
+infixl 20 _at_
+abbrev pub _at_ : Live → Phase → Moved
+_at_ l ph = record { live = l; phase = ph }
+
+-- Start: S, and neither P, D/A, R/W nor ACKTIM; SSPIF where SCIE or SSPM 1110 asks. A byte being sent is dropped with BF.
+abbrev pub started : Config → Live → Bool → Live
+started c l sending =
+    setS true (setP false (setDA false (setRW false (setACKTIM false
+    (setBF (l .bf && not sending) (setSSPIF (l .sspif || c .scie || interrupting c) l))))))
+
+-- Stop: P, and neither S, R/W nor ACKTIM; SSPIF where PCIE or SSPM 1110 asks. A byte being sent is dropped with BF.
+abbrev pub stopped : Config → Live → Bool → Live
+stopped c l sending =
+    setS false (setP true (setRW false (setACKTIM false
+    (setBF (l .bf && not sending) (setSSPIF (l .sspif || c .pcie || interrupting c) l)))))
+
+-- Intake: a full BUF stays and sets SSPOV, else the byte comes in; refused where BF or SSPOV stood. With a hold asked
+-- for, SSPIF and the hold before the acknowledge, refused or not; else the slot, pulling unless refused.
+abbrev pub intake : Config → Live → ℕ → Bool → Moved
+intake c l byte hold =
+    setBUF (cond (l .bf) (l .buf) byte) (setBF true (setSSPOV (l .bf || l .sspov)
+    (setACKTIM (l .acktim || (c .ahen || c .dhen)) (setSSPIF (l .sspif || hold) (setCKP (l .ckp && not hold) l)))))
+    at cond hold (HeldBefore (l .bf || l .sspov)) (Slot (not (l .bf || l .sspov)))
+
+-- Address, at its eighth fall: no match is quiet and nothing else; a match is D/A 0, R/W from bit 0, then intake.
+abbrev pub addressIf : Bool → Config → Live → ℕ → Moved
+addressIf true c l byte = intake c (setDA false (setRW (bit 0 byte) l)) byte (c .ahen)
+addressIf false c l byte = l at Quiet
+
+abbrev pub addressByte : Config → Live → ℕ → Moved
+addressByte c l byte = addressIf (matching (c .add) (c .msk) (c .gcen) byte) c l byte
+
+-- Data, at its eighth fall: D/A 1, then intake.
+abbrev pub dataByte : Config → Live → ℕ → Moved
+dataByte c l byte = intake c (setDA true l) byte (c .dhen)
+
+-- A fall before the eighth rise ends no byte.
+abbrev pub addressFallIf : Bool → Config → Live → Bits → Moved
+addressFallIf true c l bits = addressByte c l (bits .value)
+addressFallIf false c l bits = l at Address bits
+
+abbrev pub addressFall : Config → Live → Bits → Moved
+addressFall c l bits = addressFallIf (whole bits) c l bits
+
+abbrev pub dataFallIf : Bool → Config → Live → Bits → Bool → Moved
+dataFallIf true c l bits held = dataByte c l (bits .value)
+dataFallIf false c l bits held = l at Data bits held
+
+abbrev pub dataFall : Config → Live → Bits → Bool → Moved
+dataFall c l bits held = dataFallIf (whole bits) c l bits held
+
+-- Ninth fall: the pull ends. A slot that pulled sets SSPIF; a read address is held for sending, else data with no bits,
+-- held if SEN. A slot that did not pull is quiet. A hold is CKP 0.
+abbrev pub slotEnded : Config → Live → Bool → Moved
+slotEnded c l pulling =
+    setSSPIF (l .sspif || pulling) (setCKP (l .ckp && not (pulling && (not (l .da) && l .rw || c .sen))) l)
+    at cond pulling (cond (not (l .da) && l .rw) HeldForSending (Data none (c .sen))) Quiet
+
+-- Sending: falls 1 to 7 move on; the eighth ends the pull, with BF 0 and D/A 1.
+abbrev pub bitSentIf : Bool → Live → ℕ → ℕ → Moved
+bitSentIf true l byte place = l at Sending byte (place + 1)
+bitSentIf false l byte place = setBF false (setDA true l) at MasterAcknowledge
+
+abbrev pub bitSent : Live → ℕ → ℕ → Moved
+bitSent l byte place = bitSentIf (ltb place 7) l byte place
+
+-- The fall after the master's acknowledge: SSPIF; ACKSTAT 0 holds for sending, 1 is R/W 0 and quiet.
+abbrev pub answered : Live → Moved
+answered l =
+    setSSPIF true (setRW (l .rw && not (l .ackstat)) (setCKP (l .ckp && l .ackstat) l))
+    at cond (l .ackstat) Quiet HeldForSending
+
+-- A fall, phase by phase. In a hold no edge moves anything: only CKP or disabling ends it.
+abbrev pub fallen : Config → Live → Phase → Moved
+fallen c l Quiet = l at Quiet
+fallen c l (Address bits) = addressFall c l bits
+fallen c l (Data bits held) = dataFall c l bits held
+fallen c l (HeldBefore refused) = l at HeldBefore refused
+fallen c l (Slot pulling) = slotEnded c l pulling
+fallen c l HeldForSending = l at HeldForSending
+fallen c l (Sending byte place) = bitSent l byte place
+fallen c l MasterAcknowledge = answered l
+
+-- Bits are taken at rises; a held clock takes none.
+abbrev pub dataRisen : Bits → Bool → Bool → Phase
+dataRisen bits true sda = Data bits true
+dataRisen bits false sda = Data (pushed bits sda) false
+
+-- A rise, phase by phase: a bit; in the slot, the ninth, ACKTIM ends; after a sent byte ACKSTAT is SDA.
+abbrev pub risen : Live → Phase → Bool → Moved
+risen l Quiet sda = l at Quiet
+risen l (Address bits) sda = l at Address (pushed bits sda)
+risen l (Data bits held) sda = l at dataRisen bits held sda
+risen l (HeldBefore refused) sda = l at HeldBefore refused
+risen l (Slot pulling) sda = setACKTIM false l at Slot pulling
+risen l HeldForSending sda = l at HeldForSending
+risen l (Sending byte place) sda = l at Sending byte place
+risen l MasterAcknowledge sda = setACKSTAT sda l at MasterAcknowledge
+
+-- One edge. Start and Stop end any pull: the phases that they lead to pull nothing.
+abbrev pub edgeStep : Config → Live → Phase → Edge → Moved
+edgeStep c l ph Still = l at ph
+edgeStep c l ph Start = started c l (isSending ph) at Address none
+edgeStep c l ph Stop = stopped c l (isSending ph) at Quiet
+edgeStep c l ph (Rise sda) = risen l ph sda
+edgeStep c l ph Fall = fallen c l ph
+
+-- A wire level is seen: an enabled module reads the edge, a disabled one only remembers the wire.
+abbrev pub seenIf : Bool → Module → Bool → Bool → Module
+seenIf true m scl sda =
+    let e : Edge = edgeOf (m .line) scl sda in
+    let n : Moved = edgeStep (m .config) (m .live) (m .phase) e in
+    moduleOf (m .config) (n .live) (n .phase) (lineAfter (m .line .mark) e scl sda)
+seenIf false m scl sda = moduleOf (m .config) (m .live) (m .phase) (lineAfter (m .line .mark) Still scl sda)
+
+abbrev pub seen : Module → Bool → Bool → Module
+seen m scl sda = seenIf (m .config .sspen) m scl sda
+
+-- A sample: what the module pulls is decided before the item.
+abbrev pub sampled : Module → Bool → Bool → Module
+sampled m scl sda = seen m (onWire (sclPulled (m .phase)) scl) (onWire (sdaPulled (m .phase)) sda)

@@ -1,0 +1,294 @@
+// From levels to bytes: one function for each rule of the bus, and the sample that runs them.
+ghost use mathlib.Core.Path.{_≡_};
+ghost use Rattle.sampling.specs.Rules.{started, stopped, intake, addressByte, addressFall, dataByte, dataFall, slotEnded, bitSent, answered, fallen, dataRisen, risen, edgeStep, seen, sampled};
+use mssp::Config;
+use mssp::Live;
+use mssp::Module;
+use mssp::Phase;
+use wire::Bits;
+use wire::Edge;
+
+// What an edge leaves: the live bits and the phase.
+pub struct Moved {
+    pub live: Live,
+    pub phase: Phase,
+}
+
+// Start. SSPIF as SCIE or the mode asks; a byte that was being sent is dropped.
+pub fn start(c: Config, l: Live, sending: bool) -> Live
+    ensures { λ r. ⌜ r ≡ started c l sending ⌝ }
+{
+    let mut n = l;
+    n.s = true;
+    n.p = false;
+    n.da = false;
+    n.rw = false;
+    n.acktim = false;
+    n.bf = l.bf & !sending;
+    n.sspif = l.sspif | c.scie | (c.sspm3 & (c.sspm2 & c.sspm1 & !c.sspm0));
+    n
+}
+
+// Stop. SSPIF as PCIE or the mode asks; a byte that was being sent is dropped.
+pub fn stop(c: Config, l: Live, sending: bool) -> Live
+    ensures { λ r. ⌜ r ≡ stopped c l sending ⌝ }
+{
+    let mut n = l;
+    n.s = false;
+    n.p = true;
+    n.rw = false;
+    n.acktim = false;
+    n.bf = l.bf & !sending;
+    n.sspif = l.sspif | c.pcie | (c.sspm3 & (c.sspm2 & c.sspm1 & !c.sspm0));
+    n
+}
+
+// Intake of a byte, held before its acknowledge or not.
+pub fn take_in(c: Config, l: Live, byte: u8, hold: bool) -> Moved
+    ensures { λ r. ⌜ r ≡ intake c l byte hold ⌝ }
+{
+    let refused = l.bf | l.sspov;
+    let mut n = l;
+    n.buf = mssp::pick_byte(l.bf, l.buf, byte);
+    n.bf = true;
+    n.sspov = refused;
+    n.acktim = l.acktim | (c.ahen | c.dhen);
+    n.sspif = l.sspif | hold;
+    n.ckp = l.ckp & !hold;
+    let next = mssp::pick_phase(hold, Phase::HeldBefore(refused), Phase::Slot(!refused));
+    Moved {
+        live: n,
+        phase: next,
+    }
+}
+
+// A whole address at its eighth fall.
+pub fn address_byte(c: Config, l: Live, byte: u8) -> Moved
+    ensures { λ r. ⌜ r ≡ addressByte c l byte ⌝ }
+{
+    if address::matches(c.add, c.msk, c.gcen, byte) {
+        let mut n = l;
+        n.da = false;
+        n.rw = byte / 1 % 2 == 1;
+        take_in(c, n, byte, c.ahen)
+    } else {
+        Moved {
+            live: l,
+            phase: Phase::Quiet,
+        }
+    }
+}
+
+// A whole data byte at its eighth fall.
+pub fn data_byte(c: Config, l: Live, byte: u8) -> Moved
+    ensures { λ r. ⌜ r ≡ dataByte c l byte ⌝ }
+{
+    let mut n = l;
+    n.da = true;
+    take_in(c, n, byte, c.dhen)
+}
+
+// A fall in an address: the eighth ends it, any other ends no byte.
+pub fn address_fall(c: Config, l: Live, bits: Bits) -> Moved
+    ensures { λ r. ⌜ r ≡ addressFall c l bits ⌝ }
+{
+    if wire::is_whole(bits) {
+        address_byte(c, l, bits.value)
+    } else {
+        Moved {
+            live: l,
+            phase: Phase::Address(bits),
+        }
+    }
+}
+
+// A fall in data, likewise.
+pub fn data_fall(c: Config, l: Live, bits: Bits, held: bool) -> Moved
+    ensures { λ r. ⌜ r ≡ dataFall c l bits held ⌝ }
+{
+    if wire::is_whole(bits) {
+        data_byte(c, l, bits.value)
+    } else {
+        Moved {
+            live: l,
+            phase: Phase::Data(bits, held),
+        }
+    }
+}
+
+// The ninth fall ends the acknowledge slot.
+pub fn slot_fall(c: Config, l: Live, pulling: bool) -> Moved
+    ensures { λ r. ⌜ r ≡ slotEnded c l pulling ⌝ }
+{
+    let to_send = !l.da & l.rw;
+    let mut n = l;
+    n.sspif = l.sspif | pulling;
+    n.ckp = l.ckp & !(pulling & (to_send | c.sen));
+    let data = Phase::Data(wire::no_bits(), c.sen);
+    let taken = mssp::pick_phase(to_send, Phase::HeldForSending, data);
+    let next = mssp::pick_phase(pulling, taken, Phase::Quiet);
+    Moved {
+        live: n,
+        phase: next,
+    }
+}
+
+// A fall in sending: the next bit, or after the eighth the master's acknowledge.
+pub fn sending_fall(l: Live, byte: u8, place: u8) -> Moved
+    ensures { λ r. ⌜ r ≡ bitSent l byte place ⌝ }
+{
+    if place < 7 {
+        Moved {
+            live: l,
+            phase: Phase::Sending(byte, place + 1),
+        }
+    } else {
+        let mut n = l;
+        n.bf = false;
+        n.da = true;
+        Moved {
+            live: n,
+            phase: Phase::MasterAcknowledge,
+        }
+    }
+}
+
+// The fall after the master's acknowledge: on with the next byte, or done.
+pub fn answer_fall(l: Live) -> Moved
+    ensures { λ r. ⌜ r ≡ answered l ⌝ }
+{
+    let mut n = l;
+    n.sspif = true;
+    n.rw = l.rw & !l.ackstat;
+    n.ckp = l.ckp & l.ackstat;
+    let next = mssp::pick_phase(l.ackstat, Phase::Quiet, Phase::HeldForSending);
+    Moved {
+        live: n,
+        phase: next,
+    }
+}
+
+pub fn on_fall(c: Config, l: Live, phase: Phase) -> Moved
+    ensures { λ r. ⌜ r ≡ fallen c l phase ⌝ }
+{
+    match phase {
+        Phase::Quiet => Moved {
+            live: l,
+            phase: phase,
+        },
+        Phase::Address(bits) => address_fall(c, l, bits),
+        Phase::Data(bits, held) => data_fall(c, l, bits, held),
+        Phase::HeldBefore(_) => Moved {
+            live: l,
+            phase: phase,
+        },
+        Phase::Slot(pulling) => slot_fall(c, l, pulling),
+        Phase::HeldForSending => Moved {
+            live: l,
+            phase: phase,
+        },
+        Phase::Sending(byte, place) => sending_fall(l, byte, place),
+        Phase::MasterAcknowledge => answer_fall(l),
+    }
+}
+
+// A rise in data takes a bit, unless the clock is held.
+pub fn data_rise(bits: Bits, held: bool, sda: bool) -> Phase
+    ensures { λ r. ⌜ r ≡ dataRisen bits held sda ⌝ }
+{
+    if held {
+        Phase::Data(bits, true)
+    } else {
+        Phase::Data(wire::push(bits, sda), false)
+    }
+}
+
+// A rise: a bit of an address or of data, the end of ACKTIM in the slot, the master's acknowledge.
+pub fn on_rise(l: Live, phase: Phase, sda: bool) -> Moved
+    ensures { λ r. ⌜ r ≡ risen l phase sda ⌝ }
+{
+    let mut n = l;
+    let mut next = phase;
+    match phase {
+        Phase::Quiet => {}
+        Phase::Address(bits) => next = Phase::Address(wire::push(bits, sda)),
+        Phase::Data(bits, held) => next = data_rise(bits, held, sda),
+        Phase::HeldBefore(_) => {}
+        Phase::Slot(_) => n.acktim = false,
+        Phase::HeldForSending => {}
+        Phase::Sending(_, _) => {}
+        Phase::MasterAcknowledge => n.ackstat = sda,
+    }
+    Moved {
+        live: n,
+        phase: next,
+    }
+}
+
+// What an edge does to the module.
+pub fn on_edge(c: Config, l: Live, phase: Phase, e: Edge) -> Moved
+    ensures { λ r. ⌜ r ≡ edgeStep c l phase e ⌝ }
+{
+    match e {
+        Edge::Still => Moved {
+            live: l,
+            phase: phase,
+        },
+        Edge::Start => {
+            let n = start(c, l, mssp::is_sending(phase));
+            let bits = wire::no_bits();
+            Moved {
+                live: n,
+                phase: Phase::Address(bits),
+            }
+        }
+        Edge::Stop => {
+            let n = stop(c, l, mssp::is_sending(phase));
+            Moved {
+                live: n,
+                phase: Phase::Quiet,
+            }
+        }
+        Edge::Rise(sda) => on_rise(l, phase, sda),
+        Edge::Fall => on_fall(c, l, phase),
+    }
+}
+
+// The module sees a wire level. Disabled, it only remembers it.
+pub fn see(m: Module, scl: bool, sda: bool) -> Module
+    ensures { λ r. ⌜ r ≡ seen m scl sda ⌝ }
+{
+    let c = m.config;
+    let l = m.live;
+    let phase = m.phase;
+    let line = m.line;
+    if c.sspen {
+        let e = wire::edge_of(line, scl, sda);
+        let next = on_edge(c, l, phase, e);
+        let n = next.live;
+        let q = next.phase;
+        Module {
+            config: c,
+            live: n,
+            phase: q,
+            line: wire::line_after(line.mark, e, scl, sda),
+        }
+    } else {
+        Module {
+            config: c,
+            live: l,
+            phase: phase,
+            line: wire::line_after(line.mark, Edge::Still, scl, sda),
+        }
+    }
+}
+
+// One sample, what everybody else drives: a line is low where the sample is low or the module pulls.
+pub fn sample(m: Module, scl: bool, sda: bool) -> Module
+    ensures { λ r. ⌜ r ≡ sampled m scl sda ⌝ }
+{
+    let phase = m.phase;
+    let scl_pulled = mssp::pulls_scl(phase);
+    let sda_pulled = mssp::pulls_sda(phase);
+    see(m, !scl_pulled & scl, !sda_pulled & sda)
+}

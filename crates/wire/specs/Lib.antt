@@ -1,0 +1,3 @@
+pub mod Wire
+pub mod Byte
+pub mod Laws
