@@ -6,7 +6,8 @@ use mathlib.Core.Bool.{Bool, true, false, cond, _||_, not}
 use Rattle.mssp.specs.declared.Phase.{Phase}
 use Rattle.mssp.specs.declared.Phase.the-variants.{Quiet, Address, Data, HeldBefore, Slot, HeldForSending, Sending, MasterAcknowledge}
 use Rattle.mssp.specs.declared.Module.{Module}
-use Rattle.mssp.specs.Module.{moduleOf, setBF, setBUF, setCKP, setWCOL}
+use Rattle.wire.specs.declared.Line.{Line}
+use Rattle.mssp.specs.Module.{moduleOf, setS, setP, setDA, setRW, setBF, setACKTIM, setBUF, setCKP, setWCOL}
 use Rattle.mssp.specs.Drivers.{heldForSending}
 
 -- A read of BUF clears BF.
@@ -37,3 +38,13 @@ releasedPhase ackdt buf MasterAcknowledge = MasterAcknowledge
 
 abbrev pub released : Module → Module
 released m = moduleOf (m .config) (setCKP true (m .live)) (releasedPhase (m .config .ackdt) (m .live .buf) (m .phase)) (m .line)
+
+-- The line without the mark of a Start.
+abbrev pub unmarked : Line → Line
+unmarked line = record { remembered = line .remembered; mark = false }
+
+-- SSPEN from 1 to 0: quiet, which ends hold and pull; S, P, D/A, R/W, BF, ACKTIM and the mark are cleared.
+abbrev pub disabled : Module → Module
+disabled m =
+    moduleOf (m .config) (setS false (setP false (setDA false (setRW false (setBF false (setACKTIM false (m .live)))))))
+    Quiet (unmarked (m .line))

@@ -3,7 +3,7 @@ ghost use mathlib.Core.Path.{_≡_};
 ghost use mathlib.Core.Bool.{cond};
 ghost use Rattle.mssp.specs.Module.{fresh, setup};
 ghost use Rattle.mssp.specs.Drivers.{sclPulled, sdaPulled, isSending, heldForSending};
-ghost use Rattle.mssp.specs.Effects.{emptied, loaded, released, releasedPhase};
+ghost use Rattle.mssp.specs.Effects.{emptied, loaded, released, releasedPhase, disabled};
 use wire::Bits;
 use wire::Line;
 use wire::Remembered;
@@ -201,6 +201,27 @@ pub fn release(m: Module) -> Module
     let mut n = m;
     n.live.ckp = true;
     Module { phase: next, ..n }
+}
+
+// SSPEN goes from 1 to 0.
+pub fn disable(m: Module) -> Module
+    ensures { λ r. ⌜ r ≡ disabled m ⌝ }
+{
+    let mut live = m.live;
+    live.s = false;
+    live.p = false;
+    live.da = false;
+    live.rw = false;
+    live.bf = false;
+    live.acktim = false;
+    let mut line = m.line;
+    line.mark = false;
+    Module {
+        live: live,
+        phase: Phase::Quiet,
+        line: line,
+        ..m
+    }
 }
 
 // Registers as after a reset, nothing remembered of the wire.

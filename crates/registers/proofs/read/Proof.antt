@@ -1,0 +1,15 @@
+-- `registers::read` meets its contract.
+-- Assumes nothing.
+use borrow.Author.Needs.{needs}
+use Rattle.registers.proofs.read.Statement.{statement}
+use Rattle.registers.proofs.read.Tie as tie
+
+pub read-spec : {M : Type 1} → statement M
+read-spec =
+    tie.close
+    (tie.spec
+    (λ c κs. search needs)
+    (λ c κs. search needs)
+    (λ c κs. search needs)
+    (λ c κs. search needs)
+    (λ c. simp (c .read-verdict .ensures, c .before .after-read .ensures, c .before .before .value .ensures, c .before .before .before .register-of .ensures)))
