@@ -91,6 +91,16 @@ eightFit ph seen = not (eightBits ph) || sclHigh seen
 abbrev pub holdFits : Phase → Bool → Bool
 holdFits ph ckp = not (sclPulled ph && ckp)
 
+-- All of it, as one test.
+abbrev pub valid : Module → Bool
+valid m =
+    partsFit (m .phase) && oneCondition (m .live) && modeFits (m .config)
+    && offFits (m .config .sspen) (m .phase) (m .line .mark)
+    && markFits (m .line .mark) (m .live .s) (m .line .remembered) (m .phase)
+    && eightFit (m .phase) (m .line .remembered)
+    && holdFits (m .phase) (m .live .ckp)
+
+-- The same with a name for each clause, which is how proofs use it.
 pub record Valid (m : Module) : Type 0 where
   pub parts : T (partsFit (m .phase))
   pub condition : T (oneCondition (m .live))
@@ -99,3 +109,42 @@ pub record Valid (m : Module) : Type 0 where
   pub mark : T (markFits (m .line .mark) (m .live .s) (m .line .remembered) (m .phase))
   pub eight : T (eightFit (m .phase) (m .line .remembered))
   pub hold : T (holdFits (m .phase) (m .live .ckp))
+
+-- Seven tests at once, and each by itself.
+split :
+    (a b c d e f g : Bool) → T (a && b && c && d && e && f && g) → T a × T b × T c × T d × T e × T f × T g
+split false b c d e f g t = absurd t
+split true false c d e f g t = absurd t
+split true true false d e f g t = absurd t
+split true true true false e f g t = absurd t
+split true true true true false f g t = absurd t
+split true true true true true false g t = absurd t
+split true true true true true true g t = (tt, tt, tt, tt, tt, tt, t)
+
+join :
+    (a b c d e f g : Bool) → T a → T b → T c → T d → T e → T f → T g → T (a && b && c && d && e && f && g)
+join false b c d e f g ta tb tc td te tf tg = ta
+join true false c d e f g ta tb tc td te tf tg = tb
+join true true false d e f g ta tb tc td te tf tg = tc
+join true true true false e f g ta tb tc td te tf tg = td
+join true true true true false f g ta tb tc td te tf tg = te
+join true true true true true false g ta tb tc td te tf tg = tf
+join true true true true true true g ta tb tc td te tf tg = tg
+
+pub clauses : (m : Module) → T (valid m) → Valid m
+clauses m v =
+    let k =
+    split (partsFit (m .phase)) (oneCondition (m .live)) (modeFits (m .config))
+    (offFits (m .config .sspen) (m .phase) (m .line .mark))
+    (markFits (m .line .mark) (m .live .s) (m .line .remembered) (m .phase))
+    (eightFit (m .phase) (m .line .remembered)) (holdFits (m .phase) (m .live .ckp)) v
+    in
+    record { parts = k .0; condition = k .1; mode = k .2; off = k .3; mark = k .4; eight = k .5; hold = k .6 }
+
+pub test : (m : Module) → Valid m → T (valid m)
+test m v =
+    join (partsFit (m .phase)) (oneCondition (m .live)) (modeFits (m .config))
+    (offFits (m .config .sspen) (m .phase) (m .line .mark))
+    (markFits (m .line .mark) (m .live .s) (m .line .remembered) (m .phase))
+    (eightFit (m .phase) (m .line .remembered)) (holdFits (m .phase) (m .live .ckp))
+    (v .parts) (v .condition) (v .mode) (v .off) (v .mark) (v .eight) (v .hold)
