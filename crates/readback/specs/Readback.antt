@@ -1,0 +1,162 @@
+-- What a read gives after a write, for every state and all 256 values, and what each write leaves alone
+-- (01, "Register numbers").
+-- Assumes nothing.
+use Prim.Native.Nat.{ℕ, _<_}
+use mathlib.Core.Path.{_≡_, refl, sym, _∙_}
+use mathlib.Core.Bool.{Bool, true, false, cond, _&&_, not}
+use mathlib.Core.List.{List, [], _∷_}
+use mir.Val.{boolByte}
+use Rattle.wire.specs.Byte.{bit}
+use Rattle.mssp.specs.declared.Module.{Module}
+use Rattle.mssp.specs.Drivers.{heldForSending}
+use Rattle.registers.specs.declared.Register.{Register}
+use Rattle.registers.specs.declared.Register.the-variants.{Buf, Stat, Con1, Con2, Con3, Add, Msk, Flag, Nowhere}
+use Rattle.registers.specs.Values.{byteOf, valueOf, registerOf}
+use Rattle.registers.specs.Writes.{con1Stored, con1Then, written, verdictOf, writeOf}
+use Rattle.refusals.specs.Numbers.{accepted}
+use Rattle.refusals.specs.declared.Verdict.{Verdict}
+use Rattle.readback.specs.Bits.{bits-back, byte-back}
+
+-- What a register of a module holds.
+abbrev pub holds : Register → Module → ℕ
+holds r m = valueOf (m .config) (m .live) r
+
+-- The bits that a write takes, as a mask.
+abbrev pub takes : Register → ℕ
+takes Buf = 0
+takes Stat = 0xC0
+takes Con1 = 0x3F
+takes Con2 = 0xA1
+takes Con3 = 0x6F
+takes Add = 0xFF
+takes Msk = 0xFF
+takes Flag = 0
+takes Nowhere = 0
+
+-- The bits that a write can only clear: WCOL, SSPOV and SSPIF.
+abbrev pub clears : Register → ℕ
+clears Buf = 0
+clears Stat = 0
+clears Con1 = 0xC0
+clears Con2 = 0
+clears Con3 = 0
+clears Add = 0
+clears Msk = 0
+clears Flag = 0x01
+clears Nowhere = 0
+
+-- A bit after a write: the new one where it is taken, both where it can only be cleared, else the old one.
+abbrev pub bitAfter : Bool → Bool → Bool → Bool → Bool
+bitAfter taken cleared old new = cond taken new (cond cleared (old && new) old)
+
+abbrev pub after : ℕ → ℕ → ℕ → ℕ → ℕ
+after taken cleared old new =
+    byteOf
+    (bitAfter (bit 7 taken) (bit 7 cleared) (bit 7 old) (bit 7 new))
+    (bitAfter (bit 6 taken) (bit 6 cleared) (bit 6 old) (bit 6 new))
+    (bitAfter (bit 5 taken) (bit 5 cleared) (bit 5 old) (bit 5 new))
+    (bitAfter (bit 4 taken) (bit 4 cleared) (bit 4 old) (bit 4 new))
+    (bitAfter (bit 3 taken) (bit 3 cleared) (bit 3 old) (bit 3 new))
+    (bitAfter (bit 2 taken) (bit 2 cleared) (bit 2 old) (bit 2 new))
+    (bitAfter (bit 1 taken) (bit 1 cleared) (bit 1 old) (bit 1 new))
+    (bitAfter (bit 0 taken) (bit 0 cleared) (bit 0 old) (bit 0 new))
+
+-- Of an old byte made of eight bits.
+made :
+    (t c v : ℕ) (b7 b6 b5 b4 b3 b2 b1 b0 : Bool) → after t c (byteOf b7 b6 b5 b4 b3 b2 b1 b0) v
+    ≡ byteOf (bitAfter (bit 7 t) (bit 7 c) b7 (bit 7 v)) (bitAfter (bit 6 t) (bit 6 c) b6 (bit 6 v)) (bitAfter (bit 5 t) (bit 5 c) b5 (bit 5 v)) (bitAfter (bit 4 t) (bit 4 c) b4 (bit 4 v)) (bitAfter (bit 3 t) (bit 3 c) b3 (bit 3 v)) (bitAfter (bit 2 t) (bit 2 c) b2 (bit 2 v)) (bitAfter (bit 1 t) (bit 1 c) b1 (bit 1 v)) (bitAfter (bit 0 t) (bit 0 c) b0 (bit 0 v))
+made t c v b7 b6 b5 b4 b3 b2 b1 b0 =
+    let k = bits-back b7 b6 b5 b4 b3 b2 b1 b0 in
+    rw (k .0, k .1, k .2, k .3, k .4, k .5, k .6, k .7)
+
+con1-kept :
+    (off ckp : Bool) (v : ℕ) (m : Module) → ckp ≡ bit 4 v → holds Con1 (con1Then off ckp (con1Stored v m)) ≡ holds Con1 (con1Stored v m)
+con1-kept true ckp v m e = refl
+con1-kept false true v m e = rw (← e)
+con1-kept false false v m e = refl
+
+flag-kept : (old new : Bool) → boolByte (old && new) ≡ byteOf (bit 7 (boolByte old)) (bit 6 (boolByte old)) (bit 5 (boolByte old)) (bit 4 (boolByte old)) (bit 3 (boolByte old)) (bit 2 (boolByte old)) (bit 1 (boolByte old)) (bit 0 (boolByte old) && new)
+flag-kept true true = refl
+flag-kept true false = refl
+flag-kept false true = refl
+flag-kept false false = refl
+
+-- BUF is what was written while the clock is held for sending, else what it was.
+pub readback-buf : (v : ℕ) (m : Module) → holds Buf (written Buf v m) ≡ cond (heldForSending (m .phase)) v (m .live .buf)
+readback-buf v m = refl
+
+-- Every other register, in every state and at each of the 256 values.
+pub readback : (r : Register) (v : ℕ) (m : Module) → (r ≡ Buf → ⊥) → v < 256 → holds r (written r v m) ≡ after (takes r) (clears r) (holds r m) v
+readback Buf v m other h = absurd (other refl)
+readback Stat v m other h =
+    let c = m .config in let l = m .live in
+    sym (made 0xC0 0 v (c .smp) (c .cke) (l .da) (l .p) (l .s) (l .rw) false (l .bf))
+readback Con1 v m other h =
+    let c = m .config in let l = m .live in
+    con1-kept (c .sspen && not (bit 5 v)) (bit 4 v) v m refl
+    ∙ sym (made 0x3F 0xC0 v (c .wcol) (l .sspov) (c .sspen) (l .ckp) (c .sspm3) (c .sspm2) (c .sspm1) (c .sspm0))
+readback Con2 v m other h =
+    let c = m .config in let l = m .live in
+    sym (made 0xA1 0 v (c .gcen) (l .ackstat) (c .ackdt) false false false false (c .sen))
+readback Con3 v m other h =
+    let c = m .config in let l = m .live in
+    sym (made 0x6F 0 v (l .acktim) (c .pcie) (c .scie) false (c .sdaht) (c .sbcde) (c .ahen) (c .dhen))
+readback Add v m other h = sym (byte-back v h)
+readback Msk v m other h = sym (byte-back v h)
+readback Flag v m other h = flag-kept (m .live .sspif) (bit 0 v)
+readback Nowhere v m other h = refl
+
+-- The registers that a write to one leaves alone. BUF's write may set BF in STAT or WCOL in CON1; CON1's may clear, where
+-- it disables, bits of STAT and ACKTIM in CON3.
+abbrev pub apart : Register → List Register
+apart Buf = Con2 ∷ Con3 ∷ Add ∷ Msk ∷ Flag ∷ []
+apart Stat = Buf ∷ Con1 ∷ Con2 ∷ Con3 ∷ Add ∷ Msk ∷ Flag ∷ []
+apart Con1 = Buf ∷ Con2 ∷ Add ∷ Msk ∷ Flag ∷ []
+apart Con2 = Buf ∷ Stat ∷ Con1 ∷ Con3 ∷ Add ∷ Msk ∷ Flag ∷ []
+apart Con3 = Buf ∷ Stat ∷ Con1 ∷ Con2 ∷ Add ∷ Msk ∷ Flag ∷ []
+apart Add = Buf ∷ Stat ∷ Con1 ∷ Con2 ∷ Con3 ∷ Msk ∷ Flag ∷ []
+apart Msk = Buf ∷ Stat ∷ Con1 ∷ Con2 ∷ Con3 ∷ Add ∷ Flag ∷ []
+apart Flag = Buf ∷ Stat ∷ Con1 ∷ Con2 ∷ Con3 ∷ Add ∷ Msk ∷ []
+apart Nowhere = Buf ∷ Stat ∷ Con1 ∷ Con2 ∷ Con3 ∷ Add ∷ Msk ∷ Flag ∷ []
+
+abbrev pub values : List Register → Module → List ℕ
+values [] m = []
+values (r ∷ rs) m = holds r m ∷ values rs m
+
+con1-leaves : (off ckp : Bool) (m : Module) → values (apart Con1) (con1Then off ckp m) ≡ values (apart Con1) m
+con1-leaves true ckp m = refl
+con1-leaves false true m = refl
+con1-leaves false false m = refl
+
+-- The registers apart from the one written keep their values.
+pub leaves : (r : Register) (v : ℕ) (m : Module) → values (apart r) (written r v m) ≡ values (apart r) m
+leaves Buf v m = refl
+leaves Stat v m = refl
+leaves Con1 v m = con1-leaves (m .config .sspen && not (bit 5 v)) (bit 4 v) (con1Stored v m)
+leaves Con2 v m = refl
+leaves Con3 v m = refl
+leaves Add v m = refl
+leaves Msk v m = refl
+leaves Flag v m = refl
+leaves Nowhere v m = refl
+
+-- Only a write to CON1 moves the phase or the line.
+pub leaves-place :
+    (r : Register) (v : ℕ) (m : Module) → (r ≡ Con1 → ⊥)
+    → (written r v m .phase ≡ m .phase) × (written r v m .line ≡ m .line)
+leaves-place Buf v m other = (refl, refl)
+leaves-place Stat v m other = (refl, refl)
+leaves-place Con1 v m other = absurd (other refl)
+leaves-place Con2 v m other = (refl, refl)
+leaves-place Con3 v m other = (refl, refl)
+leaves-place Add v m other = (refl, refl)
+leaves-place Msk v m other = (refl, refl)
+leaves-place Flag v m other = (refl, refl)
+leaves-place Nowhere v m other = (refl, refl)
+
+-- A refused write leaves the module as it was given.
+refused-leaves-as : (verdict : Verdict) (m n : Module) → accepted verdict ≡ false → cond (accepted verdict) n m ≡ m
+refused-leaves-as verdict m n e = rw e
+
+pub refused-leaves : (number v : ℕ) (m : Module) → accepted (writeOf m number v .verdict) ≡ false → writeOf m number v .mssp ≡ m
+refused-leaves number v m e = refused-leaves-as (verdictOf (registerOf number) v) m (written (registerOf number) v m) e
