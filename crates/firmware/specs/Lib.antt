@@ -1,1 +1,3 @@
 pub mod Handler
+pub mod Window
+pub mod Laws

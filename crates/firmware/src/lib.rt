@@ -1,8 +1,12 @@
 // The firmware: the handler that serves the module over a lent window, and its set-up.
 ghost use mathlib.Core.Path.{_≡_};
-ghost use Rattle.firmware.specs.Handler.{setupOf};
+ghost use Prim.Native.Nat.{_+_, _≤_};
+ghost use lib.ListN.{length};
+ghost use Rattle.firmware.specs.Handler.{setupOf, served, acknowledged, addressed, sent, taken, called};
+ghost use Rattle.firmware.specs.Window.{windowFits, calledIn, outcome, callOf};
 use mssp::Module;
 use refusals::Refusal;
+use refusals::Verdict;
 
 // The handler's own variables: the window's length, the pointer, and whether a pointer byte is due.
 pub struct Handler {
@@ -19,6 +23,12 @@ pub struct State {
 pub enum Made {
     Ready(State),
     Refused(Refusal),
+}
+
+// What a call answers, and the state after it.
+pub struct Called {
+    pub verdict: Verdict,
+    pub state: State,
 }
 
 // A state set up afresh over n bytes, 1 to 256.
@@ -39,4 +49,122 @@ pub fn set_up(add: u8, n: u64) -> Made
             due: false,
         },
     })
+}
+
+// SSPIF is cleared.
+pub fn acknowledge(s: State) -> State
+    ensures { λ r. ⌜ r ≡ acknowledged s ⌝ }
+{
+    let mut t = s;
+    t.mssp.live.sspif = false;
+    t
+}
+
+// A write address: BUF is read, a pointer is due, the hold ends.
+pub fn address(s: State) -> State
+    ensures { λ r. ⌜ r ≡ addressed s ⌝ }
+{
+    let m = s.mssp;
+    let mut h = s.handler;
+    h.due = true;
+    State {
+        mssp: mssp::release(mssp::empty(m)),
+        handler: h,
+    }
+}
+
+// Sending: after a read address BUF is read first; the byte at the pointer is loaded, and the hold ends.
+pub fn send(s: State, window: &[u8]) -> State
+    ensures { λ r. ⌜ r ≡ sent s (now (window .entry)) ⌝ }
+{
+    let m = s.mssp;
+    let mut h = s.handler;
+    let byte = memory::peek(window, h.pointer);
+    let read = mssp::pick_module(m.live.da, m, mssp::empty(m));
+    h.pointer = memory::step(h.n, h.pointer);
+    State {
+        mssp: mssp::release(mssp::load(read, byte)),
+        handler: h,
+    }
+}
+
+// A data byte: the pointer where one is due, else stored; BUF is read, the hold ends.
+pub fn take(s: State, window: &mut [u8]) -> State
+    ensures { λ r. ⌜ served r (now (window .exit)) ≡ taken s (now (window .entry)) ⌝ }
+{
+    let m = s.mssp;
+    let mut h = s.handler;
+    let byte = m.live.buf;
+    let next = mssp::release(mssp::empty(m));
+    if h.due {
+        h.pointer = memory::aim(h.n, byte);
+    } else {
+        memory::store(window, h.pointer, byte);
+        h.pointer = memory::step(h.n, h.pointer);
+    }
+    h.due = false;
+    State {
+        mssp: next,
+        handler: h,
+    }
+}
+
+// A call over the window's own bytes.
+pub fn handle(s: State, window: &mut [u8]) -> State
+    ensures { λ r. ⌜ served r (now (window .exit)) ≡ called s (now (window .entry)) ⌝ }
+{
+    let l = s.mssp.live;
+    if !l.sspif {
+        return s;
+    }
+    let t = acknowledge(s);
+    if l.ckp {
+        return t;
+    }
+    if l.rw {
+        send(t, window)
+    } else if l.da {
+        take(t, window)
+    } else {
+        address(t)
+    }
+}
+
+// Whether a window of n bytes from start lies inside `long` bytes, n being what the setup said. No sum can wrap.
+pub fn window_fits(long: usize, start: u64, n: u64, wanted: u16) -> bool
+    ensures { λ r. ⌜ r ≡ windowFits long start n wanted ⌝ }
+{
+    let all = long as u64;
+    if all < start {
+        return false;
+    }
+    (n <= all - start) & (n == wanted as u64)
+}
+
+// The window is lent on: the handler sees only its n bytes.
+fn handle_in(s: State, buffer: &mut [u8], start: usize, n: usize) -> State
+    requires { ⌜ start + n ≤ length (now buffer) ⌝ }
+    ensures { λ r. ⌜ served r (now (buffer .exit)) ≡ calledIn s (now (buffer .entry)) start n ⌝ }
+{
+    let end = start + n;
+    handle(s, &mut buffer[start..end])
+}
+
+// A handler call. A window that does not fit is refused, and then nothing changes.
+pub fn call(s: State, buffer: &mut [u8], start: u64, n: u64) -> Called
+    ensures { λ r. ⌜ outcome (r .verdict) (r .state) (now (buffer .exit)) ≡ callOf s (now (buffer .entry)) start n ⌝ }
+{
+    let wanted = s.handler.n;
+    if window_fits(buffer.len(), start, n, wanted) {
+        let next = handle_in(s, buffer, start as usize, n as usize);
+        Called {
+            verdict: Verdict::Done(0),
+            state: next,
+        }
+    } else {
+        Called {
+            verdict: Verdict::Refused(Refusal::NoWindow),
+            state: s,
+        }
+    }
 }

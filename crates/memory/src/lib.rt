@@ -15,6 +15,13 @@ pub fn wrap(x: u32, n: u16) -> u16
     }
 }
 
+// The pointer that a byte sets.
+pub fn aim(n: u16, byte: u8) -> u16
+    ensures { λ r. ⌜ r ≡ modulo n byte ⌝ }
+{
+    wrap(byte as u32, n)
+}
+
 // The pointer, one on.
 pub fn step(n: u16, pointer: u16) -> u16
     ensures { λ r. ⌜ r ≡ stepped n pointer ⌝ }

@@ -1,0 +1,19 @@
+-- `firmware::handle_in` meets its contract.
+-- Assumes nothing.
+use borrow.Author.Needs.{needs}
+use denote.Ref.{now}
+use Rattle.firmware.specs.Laws.{part-back}
+use Rattle.firmware.proofs.handle_in.Statement.{statement}
+use Rattle.firmware.proofs.handle_in.Tie as tie
+
+pub handle-in-spec : {M : Type 1} → statement M
+handle-in-spec =
+    tie.close
+    (tie.spec
+    (λ c. search needs)
+    (λ c. search needs)
+    (λ c. search needs)
+    (λ c. search needs)
+    (λ c κs. search needs)
+    (λ c. search needs)
+    (λ c. part-back (c .before .before .before .before .before .args .s) (now (c .before .before .before .before .before .args .buffer)) (c .before .before .before .before .before .args .start) (c .before .before .before .before .before .args .n) (c .before .before .handle .ensures)))

@@ -1,0 +1,46 @@
+-- The window that the handler works on (01, "Handler and plain device" and refusal 5): it may start anywhere in the
+-- caller's buffer, and the bytes outside it never change.
+-- Assumes nothing.
+use Prim.Native.Nat.{ℕ, _+_}
+use mathlib.Core.Bool.{Bool, true, false, _&&_}
+use mathlib.Core.List.{List, _++_}
+use lib.Dec.{eqb, leb}
+use lib.ListN.{length, take, drop}
+use Rattle.refusals.specs.declared.Refusal.the-variants.{NoWindow}
+use Rattle.refusals.specs.declared.Verdict.{Verdict}
+use Rattle.refusals.specs.declared.Verdict.the-variants.{Done, Refused}
+use Rattle.firmware.specs.declared.State.{State}
+use Rattle.firmware.specs.Handler.{Served, served, called}
+
+-- The window lies inside its buffer, and its length is the setup's.
+abbrev pub windowFits : ℕ → ℕ → ℕ → ℕ → Bool
+windowFits long start n wanted = leb (start + n) long && eqb n wanted
+
+-- The bytes of the window, and the buffer with other bytes in their place.
+abbrev pub windowOf : ℕ → ℕ → List ℕ → List ℕ
+windowOf start n buffer = take n (drop start buffer)
+
+abbrev pub splice : ℕ → ℕ → List ℕ → List ℕ → List ℕ
+splice start n bytes buffer = take start buffer ++ (bytes ++ drop n (drop start buffer))
+
+abbrev pub calledIn : State → List ℕ → ℕ → ℕ → Served
+calledIn s buffer start n =
+    let done : Served = called s (windowOf start n buffer) in
+    served (done .state) (splice start n (done .bytes) buffer)
+
+-- All that a call decides.
+pub record Outcome : Type 0 where
+  pub verdict : Verdict
+  pub state : State
+  pub buffer : List ℕ
+
+abbrev pub outcome : Verdict → State → List ℕ → Outcome
+outcome verdict s buffer = record { verdict = verdict; state = s; buffer = buffer }
+
+-- A window that does not fit is refused; state and buffer stay.
+abbrev pub choice : State → List ℕ → ℕ → ℕ → Bool → Outcome
+choice s buffer start n true = outcome (Done 0) (calledIn s buffer start n .state) (calledIn s buffer start n .bytes)
+choice s buffer start n false = outcome (Refused NoWindow) s buffer
+
+abbrev pub callOf : State → List ℕ → ℕ → ℕ → Outcome
+callOf s buffer start n = choice s buffer start n (windowFits (length buffer) start n (s .handler .n))
