@@ -1,0 +1,25 @@
+-- `plain::hear` meets its contract.
+-- Assumes nothing.
+use borrow.Author.Needs.{needs}
+use Rattle.plain.proofs.hear.Statement.{statement}
+use Rattle.plain.proofs.hear.Tie as tie
+
+pub hear-spec : {M : Type 1} → statement M
+hear-spec =
+    tie.close
+    (tie.spec
+    (λ c. search needs)
+    (λ c. search needs)
+    (λ c κs. search needs)
+    (λ c. search needs)
+    (λ c κs. search needs)
+    (λ c. search needs)
+    (λ c κs. search needs)
+    (λ c κs. search needs)
+    (λ c. simp (c .enum-told .given .1))
+    (λ c. simp (c .before .enum-told2 .given .1, c .with-turn .ensures))
+    (λ c. simp (c .before .enum-told3 .given .1, c .with-turn2 .ensures))
+    (λ c. search needs)
+    (λ c. simp (c .before .before .before .before .heard .given .1, c .before .before .if1 .taken) (c .hear-first .ensures))
+    (λ c. search needs)
+    (λ c. simp (c .before .before .before .before .before .before .heard .given .1, c .before .before .before .before .if1 .left) (c .before .before .hear-later .ensures)))

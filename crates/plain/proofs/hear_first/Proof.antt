@@ -1,0 +1,18 @@
+-- `plain::hear_first` meets its contract.
+-- Assumes nothing.
+use borrow.Author.Needs.{needs}
+use borrow.Author.Tests.{ne-eqb}
+use Rattle.plain.proofs.hear_first.Statement.{statement}
+use Rattle.plain.proofs.hear_first.Tie as tie
+
+pub hear-first-spec : {M : Type 1} → statement M
+hear-first-spec =
+    tie.close
+    (tie.spec
+    (λ c κs. search needs)
+    (λ c κs. search needs)
+    (λ c κs. search needs)
+    (λ c κs. search needs)
+    (λ c. simp (← c .before .before .before .is-own .ensures, c .before .before .if1 .taken, c .before .if2 .taken, c .lay-out .ensures))
+    (λ c. simp (← c .before .before .before .is-own .ensures, c .before .before .if1 .taken, ne-eqb _ _ (c .before .if2 .left), c .with-turn .ensures))
+    (λ c. simp (← c .before .before .is-own .ensures, c .before .if1 .left, c .with-turn2 .ensures)))

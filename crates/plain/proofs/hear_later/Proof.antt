@@ -1,0 +1,23 @@
+-- `plain::hear_later` meets its contract.
+-- Assumes nothing.
+use borrow.Author.Needs.{needs}
+use Rattle.plain.proofs.hear_later.Statement.{statement}
+use Rattle.plain.proofs.hear_later.Tie as tie
+
+pub hear-later-spec : {M : Type 1} → statement M
+hear-later-spec =
+    tie.close
+    (tie.spec
+    (λ c. search needs)
+    (λ c κs. search needs)
+    (λ c. search needs)
+    (λ c κs. search needs)
+    (λ c. search needs)
+    (λ c κs. search needs)
+    (λ c κs. search needs)
+    (λ c. simp (c .before .enum-told .given .1, c .with-turn .ensures))
+    (λ c. search needs)
+    (λ c. simp (c .before .before .before .before .before .turn .given .1) (c .before .before .take-byte .ensures))
+    (λ c. simp (c .before .before .enum-told2 .given .1, c .before .if1 .taken, c .with-turn2 .ensures))
+    (λ c. search needs)
+    (λ c. simp (c .before .before .before .enum-told2 .given .1, c .before .before .if1 .left, c .lay-out .ensures)))
