@@ -17,8 +17,8 @@ emptied m = moduleOf (m .config) (setBF false (m .live)) (m .phase) (m .line)
 -- A write to BUF takes effect, with BF, while the clock is held for sending; else it sets WCOL and no more.
 abbrev pub loadedIf : Bool → ℕ → Module → Module
 loadedIf held byte m =
-    moduleOf (setWCOL (m .config .wcol || not held) (m .config))
-    (setBF (m .live .bf || held) (setBUF (cond held byte (m .live .buf)) (m .live)))
+    moduleOf (setWCOL (not held || m .config .wcol) (m .config))
+    (setBF (held || m .live .bf) (setBUF (cond held byte (m .live .buf)) (m .live)))
     (m .phase) (m .line)
 
 abbrev pub loaded : ℕ → Module → Module

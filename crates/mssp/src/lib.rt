@@ -165,9 +165,9 @@ pub fn load(m: Module, byte: u8) -> Module
     let phase = m.phase;
     let held = is_held_for_sending(phase);
     let mut config = m.config;
-    config.wcol = config.wcol | !held;
+    config.wcol = !held | config.wcol;
     let mut live = m.live;
-    live.bf = live.bf | held;
+    live.bf = held | live.bf;
     live.buf = pick_byte(held, byte, live.buf);
     Module {
         config: config,

@@ -39,7 +39,7 @@ stopped c l sending =
 abbrev pub intake : Config → Live → ℕ → Bool → Moved
 intake c l byte hold =
     setBUF (cond (l .bf) (l .buf) byte) (setBF true (setSSPOV (l .bf || l .sspov)
-    (setACKTIM (l .acktim || (c .ahen || c .dhen)) (setSSPIF (l .sspif || hold) (setCKP (l .ckp && not hold) l)))))
+    (setACKTIM (l .acktim || (c .ahen || c .dhen)) (setSSPIF (hold || l .sspif) (setCKP (l .ckp && not hold) l)))))
     at cond hold (HeldBefore (l .bf || l .sspov)) (Slot (not (l .bf || l .sspov)))
 
 -- Address, at its eighth fall: no match is quiet and nothing else; a match is D/A 0, R/W from bit 0, then intake.
@@ -73,7 +73,7 @@ dataFall c l bits held = dataFallIf (whole bits) c l bits held
 -- held if SEN. A slot that did not pull is quiet. A hold is CKP 0.
 abbrev pub slotEnded : Config → Live → Bool → Moved
 slotEnded c l pulling =
-    setSSPIF (l .sspif || pulling) (setCKP (l .ckp && not (pulling && (not (l .da) && l .rw || c .sen))) l)
+    setSSPIF (pulling || l .sspif) (setCKP (l .ckp && not (pulling && (not (l .da) && l .rw || c .sen))) l)
     at cond pulling (cond (not (l .da) && l .rw) HeldForSending (Data none (c .sen))) Quiet
 
 -- Sending: falls 1 to 7 move on; the eighth ends the pull, with BF 0 and D/A 1.

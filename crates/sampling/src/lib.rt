@@ -53,7 +53,7 @@ pub fn take_in(c: Config, l: Live, byte: u8, hold: bool) -> Moved
     n.bf = true;
     n.sspov = refused;
     n.acktim = l.acktim | (c.ahen | c.dhen);
-    n.sspif = l.sspif | hold;
+    n.sspif = hold | l.sspif;
     n.ckp = l.ckp & !hold;
     let next = mssp::pick_phase(hold, Phase::HeldBefore(refused), Phase::Slot(!refused));
     Moved {
@@ -122,7 +122,7 @@ pub fn slot_fall(c: Config, l: Live, pulling: bool) -> Moved
 {
     let to_send = !l.da & l.rw;
     let mut n = l;
-    n.sspif = l.sspif | pulling;
+    n.sspif = pulling | l.sspif;
     n.ckp = l.ckp & !(pulling & (to_send | c.sen));
     let data = Phase::Data(wire::no_bits(), c.sen);
     let taken = mssp::pick_phase(to_send, Phase::HeldForSending, data);

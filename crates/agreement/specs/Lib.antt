@@ -1,0 +1,3 @@
+pub mod Joint
+pub mod Simulation
+pub mod Demand
