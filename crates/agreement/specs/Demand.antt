@@ -3,7 +3,7 @@
 -- Assumes nothing.
 use Prim.Native.Nat.{ℕ, _+_, _%_, _<_, _≤_, pred}
 use mathlib.Core.Path.{_≡_, refl, sym}
-use mathlib.Core.Bool.{Bool, true, false, cond}
+use mathlib.Core.Bool.{Bool, true, false, true≢false, cond}
 use mathlib.Core.List.{List}
 use native.Mathlib.Omega.{arith}
 use lib.ListN.{length}
@@ -23,52 +23,56 @@ use Rattle.agreement.specs.Simulation.{Rel, resting, foreign, refused, p
 just-taken : (count : ℕ) → count < 8 → pred (count % 8 + 1) ≡ count
 just-taken count h = omega arith
 
+never {ℓ} : {P : Type ℓ} → false ≡ true → P
+never h = absurd (true≢false (sym h))
+
 shows :
-    {n add : ℕ} {st : State} {m : List ℕ} {r : Reader} {dd : Plain} {o : Memory}
-    → Rel n add st m r dd o
+    {n add : ℕ} {st : State} {m : List ℕ} {r : Reader} {dd : Plain} {o : Memory} {q : Bool}
+    → Rel n add st m r dd o q
     → (memoryOf m (st .handler .pointer) ≡ cond (sclPulled (st .mssp .phase)) o (dd .memory))
     × (sclPulled (called st m .state .mssp .phase) ≡ false)
     × (sdaPulled (st .mssp .phase) ≡ owes add (sclPulled (st .mssp .phase)) (sclHigh (r .line .remembered)) (r .place) (dd .turn))
-shows (resting {i = true}) = (refl, refl, refl)
-shows (resting {i = false}) = (refl, refl, refl)
-shows (foreign {i = true}) = (refl, refl, refl)
-shows (foreign {i = false}) = (refl, refl, refl)
-shows (refused {i = true} e) = (refl, refl, sym e)
-shows (refused {i = false} e) = (refl, refl, sym e)
-shows (passing {i = true}) = (refl, refl, refl)
-shows (passing {i = false}) = (refl, refl, refl)
-shows (addressing {i = true}) = (refl, refl, refl)
-shows (addressing {i = false}) = (refl, refl, refl)
-shows (ours-low {i = true} e g) = (refl, refl, sym e)
-shows (ours-low {i = false} e g) = (refl, refl, sym e)
-shows (ours-high {i = true} e g) = (refl, refl, sym e)
-shows (ours-high {i = false} e g) = (refl, refl, sym e)
-shows (byte-low {i = true}) = (refl, refl, refl)
-shows (byte-low {i = false}) = (refl, refl, refl)
-shows (byte-high {i = true}) = (refl, refl, refl)
-shows (byte-high {i = false}) = (refl, refl, refl)
-shows held-ours = (refl, refl, refl)
-shows (held-byte {due = true}) = (refl, refl, refl)
-shows (held-byte {due = false}) = (refl, refl, refl)
-shows (taking {i = true}) = (refl, refl, refl)
-shows (taking {i = false}) = (refl, refl, refl)
-shows (held-load {da = true}) = (refl, refl, refl)
-shows (held-load {da = false}) = (refl, refl, refl)
-shows (sent-low {i = true} h) = (refl, refl, refl)
-shows (sent-low {i = false} h) = (refl, refl, refl)
-shows (sent-high b y {i = true} h) = (refl, refl, rw (just-taken (b .count) h))
-shows (sent-high b y {i = false} h) = (refl, refl, rw (just-taken (b .count) h))
-shows (asked-low {i = true}) = (refl, refl, refl)
-shows (asked-low {i = false}) = (refl, refl, refl)
-shows (asked-high {i = true}) = (refl, refl, refl)
-shows (asked-high {i = false}) = (refl, refl, refl)
+    × (sclPulled (st .mssp .phase) ≡ true → q ≡ false)
+shows (resting {i = true}) = (refl, refl, refl, λ h. never h)
+shows (resting {i = false}) = (refl, refl, refl, λ h. never h)
+shows (foreign {i = true}) = (refl, refl, refl, λ h. never h)
+shows (foreign {i = false}) = (refl, refl, refl, λ h. never h)
+shows (refused {i = true} e) = (refl, refl, sym e, λ h. never h)
+shows (refused {i = false} e) = (refl, refl, sym e, λ h. never h)
+shows (passing {i = true}) = (refl, refl, refl, λ h. never h)
+shows (passing {i = false}) = (refl, refl, refl, λ h. never h)
+shows (addressing {i = true}) = (refl, refl, refl, λ h. never h)
+shows (addressing {i = false}) = (refl, refl, refl, λ h. never h)
+shows (ours-low {i = true} e g) = (refl, refl, sym e, λ h. never h)
+shows (ours-low {i = false} e g) = (refl, refl, sym e, λ h. never h)
+shows (ours-high {i = true} e g) = (refl, refl, sym e, λ h. never h)
+shows (ours-high {i = false} e g) = (refl, refl, sym e, λ h. never h)
+shows (byte-low {i = true}) = (refl, refl, refl, λ h. never h)
+shows (byte-low {i = false}) = (refl, refl, refl, λ h. never h)
+shows (byte-high {i = true}) = (refl, refl, refl, λ h. never h)
+shows (byte-high {i = false}) = (refl, refl, refl, λ h. never h)
+shows held-ours = (refl, refl, refl, λ h. refl)
+shows (held-byte {due = true}) = (refl, refl, refl, λ h. refl)
+shows (held-byte {due = false}) = (refl, refl, refl, λ h. refl)
+shows (taking {i = true}) = (refl, refl, refl, λ h. never h)
+shows (taking {i = false}) = (refl, refl, refl, λ h. never h)
+shows (held-load {da = true}) = (refl, refl, refl, λ h. refl)
+shows (held-load {da = false}) = (refl, refl, refl, λ h. refl)
+shows (sent-low {i = true} h) = (refl, refl, refl, λ h. never h)
+shows (sent-low {i = false} h) = (refl, refl, refl, λ h. never h)
+shows (sent-high b y {i = true} h) = (refl, refl, rw (just-taken (b .count) h), λ h. never h)
+shows (sent-high b y {i = false} h) = (refl, refl, rw (just-taken (b .count) h), λ h. never h)
+shows (asked-low {i = true}) = (refl, refl, refl, λ h. never h)
+shows (asked-low {i = false}) = (refl, refl, refl, λ h. never h)
+shows (asked-high {i = true}) = (refl, refl, refl, λ h. never h)
+shows (asked-high {i = false}) = (refl, refl, refl, λ h. never h)
 
 -- After each item: any list is a list up to some item.
 pub demand-three :
     (add : ℕ) (bytes : List ℕ) (items : List Item) → Agrees add (run (length bytes) add (afresh add bytes) items)
 demand-three add bytes items =
     let k = shows (run-kept (length bytes) add (afresh add bytes) items (begins add bytes)) in
-    record { memories = k .0; once = k .1; owed = k .2 }
+    record { memories = k .0; once = k .1; owed = k .2; acknowledged = k .3 }
 
 -- The joint run begins with what setup makes, for each of the lengths that it takes.
 pub begins-with-setup :

@@ -25,13 +25,15 @@ pub data Item : Type 0 where
   sample : Bool → Bool → Item
   call : Item
 
--- Module and handler with the bytes of their window; the plain reader; the plain device; its memory before the last byte.
+-- Module and handler with the bytes of their window; the plain reader; the plain device; its memory before the last byte,
+-- and the level of that byte's ninth clock.
 pub record Joint : Type 0 where
   pub state : State
   pub bytes : List ℕ
   pub reader : Reader
   pub device : Plain
   pub before : Memory
+  pub ninth : Bool
 
 -- The clock is held; SDA is pulled.
 abbrev pub held : Joint → Bool
@@ -51,6 +53,12 @@ beforeAfter Started now before = before
 beforeAfter Stopped now before = before
 beforeAfter (Byte first byte level) now before = now
 
+abbrev pub ninthAfter : Heard → Bool → Bool
+ninthAfter Silence level = level
+ninthAfter Started level = level
+ninthAfter Stopped level = level
+ninthAfter (Byte first byte now) level = now
+
 -- A wire level is seen by both.
 abbrev pub bothSee : ℕ → ℕ → Bool → Bool → Joint → Joint
 bothSee n add scl sda j =
@@ -61,13 +69,14 @@ bothSee n add scl sda j =
       reader = readerAfter (j .reader) scl sda;
       device = hears n add heard (j .device);
       before = beforeAfter heard (j .device .memory) (j .before);
+      ninth = ninthAfter heard (j .ninth);
     }
 
 -- The handler is called; reader and device see nothing of it.
 abbrev pub handlerRuns : Joint → Joint
 handlerRuns j =
     let done : Served = called (j .state) (j .bytes) in
-    record { state = done .state; bytes = done .bytes; reader = j .reader; device = j .device; before = j .before }
+    record { state = done .state; bytes = done .bytes; reader = j .reader; device = j .device; before = j .before; ninth = j .ninth }
 
 abbrev pub step : ℕ → ℕ → Joint → Item → Joint
 step n add j (sample scl sda) = bothSee n add (onWire (held j) scl) (onWire (pulled j) sda) j
@@ -86,6 +95,7 @@ afresh add bytes =
       reader = readerAfresh;
       device = plainOf (memoryOf bytes 0) Off;
       before = memoryOf bytes 0;
+      ninth = true;
     }
 
 -- What demand 3 says after an item.
@@ -96,3 +106,5 @@ pub record Agrees (add : ℕ) (j : Joint) : Type 0 where
   pub once : held (handlerRuns j) ≡ false
   -- SDA is pulled exactly where the plain device owes a low
   pub owed : pulled j ≡ owes add (held j) (sclHigh (j .reader .line .remembered)) (j .reader .place) (j .device .turn)
+  -- the clock is held only after an acknowledged byte: the last ninth clock was low
+  pub acknowledged : held j ≡ true → j .ninth ≡ false

@@ -1,3 +1,5 @@
 pub mod Joint
 pub mod Simulation
 pub mod Demand
+pub mod Record
+pub mod Before

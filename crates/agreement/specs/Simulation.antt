@@ -41,7 +41,7 @@ use Rattle.plain.specs.declared.Turn.the-variants.{Off, Writing, Reading}
 use Rattle.plain.specs.declared.Reader.{Reader}
 use Rattle.plain.specs.Reader.{readerOf, withinFall, placeAfter, heardAt}
 use Rattle.plain.specs.Device.{Plain, plainOf, own, hears, owes}
-use Rattle.agreement.specs.Joint.{Item, sample, call, Joint, held, pulled, memory, beforeAfter, bothSee, handlerRuns, step, run, afresh, Agrees}
+use Rattle.agreement.specs.Joint.{Item, sample, call, Joint, held, pulled, memory, beforeAfter, ninthAfter, bothSee, handlerRuns, step, run, afresh, Agrees}
 
 -- Which edge a change of the wire can be.
 pub data Move : Remembered → Remembered → Edge → Type 0 where
@@ -77,78 +77,78 @@ abbrev at : ℕ → ℕ → Phase → Live → Remembered → Bool → ℕ → B
 at n add ph l seen mark pointer due = stateOf (moduleOf (chosen add) l ph (line seen mark)) (handlerOf n pointer due)
 
 -- The state and the window's bytes, the reader, the device, and the device's memory before the last byte.
-pub data Rel (n add : ℕ) : State → List ℕ → Reader → Plain → Memory → Type 0 where
+pub data Rel (n add : ℕ) : State → List ℕ → Reader → Plain → Memory → Bool → Type 0 where
   resting :
-      {z : Remembered} {v pt : ℕ} {k da rw i ks kt s p due : Bool} {m : List ℕ} {o : Memory}
+      {z : Remembered} {v pt : ℕ} {k da rw i ks kt s p due : Bool} {m : List ℕ} {o : Memory} {q : Bool}
       → Rel n add (at n add Quiet (flags v false da rw true i ks kt s p) z k pt due) m
-      (readerOf (line z k) Idle) (plainOf (memoryOf m pt) Off) o
+      (readerOf (line z k) Idle) (plainOf (memoryOf m pt) Off) o q
   foreign :
-      {l d : Bool} {b : Bits} {v pt : ℕ} {k da rw i ks kt s p due : Bool} {m : List ℕ} {o : Memory}
+      {l d : Bool} {b : Bits} {v pt : ℕ} {k da rw i ks kt s p due : Bool} {m : List ℕ} {o : Memory} {q : Bool}
       → Rel n add (at n add Quiet (flags v false da rw true i ks kt s p) (Wire l d) k pt due) m
-      (readerOf (line (Wire l d) k) (Within false b)) (plainOf (memoryOf m pt) Off) o
+      (readerOf (line (Wire l d) k) (Within false b)) (plainOf (memoryOf m pt) Off) o q
   refused :
-      {l d : Bool} {x : ℕ} {y : Ninth} {v pt : ℕ} {k da rw i ks kt s p due : Bool} {m : List ℕ} {o : Memory}
+      {l d : Bool} {x : ℕ} {y : Ninth} {v pt : ℕ} {k da rw i ks kt s p due : Bool} {m : List ℕ} {o : Memory} {q : Bool}
       → own add x ≡ false
       → Rel n add (at n add Quiet (flags v false da rw true i ks kt s p) (Wire l d) k pt due) m
-      (readerOf (line (Wire l d) k) (Ending true x y)) (plainOf (memoryOf m pt) Off) o
+      (readerOf (line (Wire l d) k) (Ending true x y)) (plainOf (memoryOf m pt) Off) o q
   passing :
-      {l d : Bool} {x : ℕ} {y : Ninth} {v pt : ℕ} {k da rw i ks kt s p due : Bool} {m : List ℕ} {o : Memory}
+      {l d : Bool} {x : ℕ} {y : Ninth} {v pt : ℕ} {k da rw i ks kt s p due : Bool} {m : List ℕ} {o : Memory} {q : Bool}
       → Rel n add (at n add Quiet (flags v false da rw true i ks kt s p) (Wire l d) k pt due) m
-      (readerOf (line (Wire l d) k) (Ending false x y)) (plainOf (memoryOf m pt) Off) o
+      (readerOf (line (Wire l d) k) (Ending false x y)) (plainOf (memoryOf m pt) Off) o q
   addressing :
-      {l d : Bool} {b : Bits} {v pt : ℕ} {k da rw i ks kt s p due : Bool} {m : List ℕ} {o : Memory}
+      {l d : Bool} {b : Bits} {v pt : ℕ} {k da rw i ks kt s p due : Bool} {m : List ℕ} {o : Memory} {q : Bool}
       → Rel n add (at n add (Address b) (flags v false da rw true i ks kt s p) (Wire l d) k pt due) m
-      (readerOf (line (Wire l d) k) (Within true b)) (plainOf (memoryOf m pt) Off) o
+      (readerOf (line (Wire l d) k) (Within true b)) (plainOf (memoryOf m pt) Off) o q
   ours-low :
-      {d r : Bool} {v pt : ℕ} {k i ks kt s p due : Bool} {m : List ℕ} {o : Memory} → own add v ≡ true → bit 0 v ≡ r
+      {d r : Bool} {v pt : ℕ} {k i ks kt s p due : Bool} {m : List ℕ} {o : Memory} {q : Bool} → own add v ≡ true → bit 0 v ≡ r
       → Rel n add (at n add (Slot true) (flags v true false r true i ks kt s p) (Wire false d) k pt due) m
-      (readerOf (line (Wire false d) k) (Ending true v Waiting)) (plainOf (memoryOf m pt) Off) o
+      (readerOf (line (Wire false d) k) (Ending true v Waiting)) (plainOf (memoryOf m pt) Off) o q
   ours-high :
-      {r : Bool} {v pt : ℕ} {k i ks kt s p due : Bool} {m : List ℕ} {o : Memory} → own add v ≡ true → bit 0 v ≡ r
+      {r : Bool} {v pt : ℕ} {k i ks kt s p due : Bool} {m : List ℕ} {o : Memory} {q : Bool} → own add v ≡ true → bit 0 v ≡ r
       → Rel n add (at n add (Slot true) (flags v true false r true i ks kt s p) (Wire true false) k pt due) m
-      (readerOf (line (Wire true false) k) (Ending true v (Got false))) (plainOf (memoryOf m pt) Off) o
+      (readerOf (line (Wire true false) k) (Ending true v (Got false))) (plainOf (memoryOf m pt) Off) o q
   byte-low :
-      {d : Bool} {v pt : ℕ} {k i ks kt s p due : Bool} {m : List ℕ} {o : Memory}
+      {d : Bool} {v pt : ℕ} {k i ks kt s p due : Bool} {m : List ℕ} {o : Memory} {q : Bool}
       → Rel n add (at n add (Slot true) (flags v true true false true i ks kt s p) (Wire false d) k pt due) m
-      (readerOf (line (Wire false d) k) (Ending false v Waiting)) (plainOf (memoryOf m pt) (Writing due)) o
+      (readerOf (line (Wire false d) k) (Ending false v Waiting)) (plainOf (memoryOf m pt) (Writing due)) o q
   byte-high :
-      {v pt : ℕ} {k i ks kt s p due : Bool} {m : List ℕ} {o : Memory}
+      {v pt : ℕ} {k i ks kt s p due : Bool} {m : List ℕ} {o : Memory} {q : Bool}
       → Rel n add (at n add (Slot true) (flags v true true false true i ks kt s p) (Wire true false) k pt due) m
-      (readerOf (line (Wire true false) k) (Ending false v (Got false))) (plainOf (memoryOf m pt) (Writing due)) o
+      (readerOf (line (Wire true false) k) (Ending false v (Got false))) (plainOf (memoryOf m pt) (Writing due)) o q
   held-ours :
       {d : Bool} {v pt : ℕ} {k ks kt s p due : Bool} {m : List ℕ}
       → Rel n add (at n add (Data none true) (flags v true false false false true ks kt s p) (Wire false d) k pt due) m
-      (readerOf (line (Wire false d) k) (Within false none)) (plainOf (memoryOf m pt) (Writing true)) (memoryOf m pt)
+      (readerOf (line (Wire false d) k) (Within false none)) (plainOf (memoryOf m pt) (Writing true)) (memoryOf m pt) false
   held-byte :
       {d : Bool} {v pt : ℕ} {k ks kt s p due : Bool} {m : List ℕ}
       → Rel n add (at n add (Data none true) (flags v true true false false true ks kt s p) (Wire false d) k pt due) m
       (readerOf (line (Wire false d) k) (Within false none)) (plainOf (put n due v (memoryOf m pt)) (Writing false))
-      (memoryOf m pt)
+      (memoryOf m pt) false
   taking :
-      {l d : Bool} {b : Bits} {v pt : ℕ} {k da i ks kt s p due : Bool} {m : List ℕ} {o : Memory}
+      {l d : Bool} {b : Bits} {v pt : ℕ} {k da i ks kt s p due : Bool} {m : List ℕ} {o : Memory} {q : Bool}
       → Rel n add (at n add (Data b false) (flags v false da false true i ks kt s p) (Wire l d) k pt due) m
-      (readerOf (line (Wire l d) k) (Within false b)) (plainOf (memoryOf m pt) (Writing due)) o
+      (readerOf (line (Wire l d) k) (Within false b)) (plainOf (memoryOf m pt) (Writing due)) o q
   held-load :
       {d : Bool} {v pt : ℕ} {k bf da ks kt s p due : Bool} {m : List ℕ}
       → Rel n add (at n add HeldForSending (flags v bf da true false true ks kt s p) (Wire false d) k pt due) m
       (readerOf (line (Wire false d) k) (Within false none))
-      (plainOf (laidOut n (memoryOf m pt)) (Reading (peeked (memoryOf m pt)))) (memoryOf m pt)
+      (plainOf (laidOut n (memoryOf m pt)) (Reading (peeked (memoryOf m pt)))) (memoryOf m pt) false
   sent-low :
-      {d : Bool} {b : Bits} {x v pt : ℕ} {k da i ks kt s p due : Bool} {m : List ℕ} {o : Memory} → b .count < 8
+      {d : Bool} {b : Bits} {x v pt : ℕ} {k da i ks kt s p due : Bool} {m : List ℕ} {o : Memory} {q : Bool} → b .count < 8
       → Rel n add (at n add (Sending x (b .count)) (flags v true da true true i ks kt s p) (Wire false d) k pt due) m
-      (readerOf (line (Wire false d) k) (Within false b)) (plainOf (memoryOf m pt) (Reading x)) o
+      (readerOf (line (Wire false d) k) (Within false b)) (plainOf (memoryOf m pt) (Reading x)) o q
   sent-high :
-      {d : Bool} (b : Bits) (y : Bool) {x v pt : ℕ} {k da i ks kt s p due : Bool} {m : List ℕ} {o : Memory} → b .count < 8
+      {d : Bool} (b : Bits) (y : Bool) {x v pt : ℕ} {k da i ks kt s p due : Bool} {m : List ℕ} {o : Memory} {q : Bool} → b .count < 8
       → Rel n add (at n add (Sending x (b .count)) (flags v true da true true i ks kt s p) (Wire true d) k pt due) m
-      (readerOf (line (Wire true d) k) (Within false (pushed b y))) (plainOf (memoryOf m pt) (Reading x)) o
+      (readerOf (line (Wire true d) k) (Within false (pushed b y))) (plainOf (memoryOf m pt) (Reading x)) o q
   asked-low :
-      {d : Bool} {x v u pt : ℕ} {k i ks kt s p due : Bool} {m : List ℕ} {o : Memory}
+      {d : Bool} {x v u pt : ℕ} {k i ks kt s p due : Bool} {m : List ℕ} {o : Memory} {q : Bool}
       → Rel n add (at n add MasterAcknowledge (flags v false true true true i ks kt s p) (Wire false d) k pt due) m
-      (readerOf (line (Wire false d) k) (Ending false u Waiting)) (plainOf (memoryOf m pt) (Reading x)) o
+      (readerOf (line (Wire false d) k) (Ending false u Waiting)) (plainOf (memoryOf m pt) (Reading x)) o q
   asked-high :
-      {d : Bool} {x v u pt : ℕ} {k i ks kt s p due : Bool} {m : List ℕ} {o : Memory}
+      {d : Bool} {x v u pt : ℕ} {k i ks kt s p due : Bool} {m : List ℕ} {o : Memory} {q : Bool}
       → Rel n add (at n add MasterAcknowledge (flags v false true true true i ks kt s p) (Wire true d) k pt due) m
-      (readerOf (line (Wire true d) k) (Ending false u (Got ks))) (plainOf (memoryOf m pt) (Reading x)) o
+      (readerOf (line (Wire true d) k) (Ending false u (Got ks))) (plainOf (memoryOf m pt) (Reading x)) o q
 
 -- The joint state after an edge e, and that it is one of these.
 abbrev edged : Edge → Bool → Bool → Module → Module
@@ -156,12 +156,13 @@ edged e scl sda m =
     let n : Moved = edgeStep (m .config) (m .live) (m .phase) e in
     moduleOf (m .config) (n .live) (n .phase) (lineAfter (m .line .mark) e scl sda)
 
-after : ℕ → ℕ → Edge → Bool → Bool → State → List ℕ → Reader → Plain → Memory → Type 0
-after n add e scl sda st m r d o =
+after : ℕ → ℕ → Edge → Bool → Bool → State → List ℕ → Reader → Plain → Memory → Bool → Type 0
+after n add e scl sda st m r d o q =
     Rel n add (stateOf (edged e scl sda (st .mssp)) (st .handler)) m
     (readerOf (lineAfter (st .mssp .line .mark) e scl sda) (placeAfter (r .place) e))
     (hears n add (heardAt (r .place) e) d)
     (beforeAfter (heardAt (r .place) e) (d .memory) o)
+    (ninthAfter (heardAt (r .place) e) q)
 
 -- Either a test holds or it fails.
 by-test : {P : Type 0} (t : Bool) → (t ≡ true → P) → (t ≡ false → P) → P
@@ -192,30 +193,30 @@ whole-pushed b y h = rw (mod-eq-of-lt h) (eighth (b .count) h)
 -- ---- the falls that turn on a test, t or u
 foreign-fall :
     {n add : ℕ} {c : Config} {l : Live} {z : Line} {h : Handler} {m : List ℕ} {b : Bits} {y : Line} {dd : Plain}
-    {o : Memory} {d : Bool} (t : Bool)
-    → Rel n add (stateOf (moduleOf c l Quiet z) h) m (readerOf y (Within false b)) dd o
+    {o : Memory} {q : Bool} {d : Bool} (t : Bool)
+    → Rel n add (stateOf (moduleOf c l Quiet z) h) m (readerOf y (Within false b)) dd o q
     → Rel n add (stateOf (moduleOf c l Quiet (line (Wire false d) false)) h) m
-    (readerOf (line (Wire false d) false) (withinFall t false b)) dd o
+    (readerOf (line (Wire false d) false) (withinFall t false b)) dd o q
 foreign-fall true foreign = passing
 foreign-fall false foreign = foreign
 
 ours-fall :
     {n add : ℕ} {c : Config} {l : Live} {z : Line} {h : Handler} {m : List ℕ} {b : Bits} {r : Reader} {dd : Plain}
-    {o : Memory} {d : Bool} (u : Bool) → own add (b .value) ≡ u
-    → Rel n add (stateOf (moduleOf c l (Address b) z) h) m r dd o
+    {o : Memory} {q : Bool} {d : Bool} (u : Bool) → own add (b .value) ≡ u
+    → Rel n add (stateOf (moduleOf c l (Address b) z) h) m r dd o q
     → Rel n add
     (stateOf (moduleOf c (addressIf u c l (b .value) .live) (addressIf u c l (b .value) .phase) (line (Wire false d) false)) h)
-    m (readerOf (line (Wire false d) false) (Ending true (b .value) Waiting)) dd o
+    m (readerOf (line (Wire false d) false) (Ending true (b .value) Waiting)) dd o q
 ours-fall true e addressing = ours-low e refl
 ours-fall false e addressing = refused e
 
 address-fall :
     {n add : ℕ} {c : Config} {l : Live} {z : Line} {h : Handler} {m : List ℕ} {b : Bits} {r : Reader} {dd : Plain}
-    {o : Memory} {d : Bool} (t : Bool)
-    → Rel n add (stateOf (moduleOf c l (Address b) z) h) m r dd o
+    {o : Memory} {q : Bool} {d : Bool} (t : Bool)
+    → Rel n add (stateOf (moduleOf c l (Address b) z) h) m r dd o q
     → Rel n add
     (stateOf (moduleOf c (addressFallIf t c l b .live) (addressFallIf t c l b .phase) (line (Wire false d) false)) h)
-    m (readerOf (line (Wire false d) false) (withinFall t true b)) dd o
+    m (readerOf (line (Wire false d) false) (withinFall t true b)) dd o q
 address-fall {add = add} true (addressing {l = l} {d = before} {b = b} {k = k}) =
     ours-fall {b = b} (matching add 255 false (b .value)) (sym (matches-own add (b .value)))
     (addressing {l = l} {d = before} {b = b} {k = k})
@@ -223,21 +224,21 @@ address-fall false addressing = addressing
 
 data-fall :
     {n add : ℕ} {c : Config} {l : Live} {z : Line} {h : Handler} {m : List ℕ} {b : Bits} {r : Reader} {dd : Plain}
-    {o : Memory} {d : Bool} (t : Bool)
-    → Rel n add (stateOf (moduleOf c l (Data b false) z) h) m r dd o
+    {o : Memory} {q : Bool} {d : Bool} (t : Bool)
+    → Rel n add (stateOf (moduleOf c l (Data b false) z) h) m r dd o q
     → Rel n add
     (stateOf (moduleOf c (dataFallIf t c l b false .live) (dataFallIf t c l b false .phase) (line (Wire false d) false)) h)
-    m (readerOf (line (Wire false d) false) (withinFall t false b)) dd o
+    m (readerOf (line (Wire false d) false) (withinFall t false b)) dd o q
 data-fall true taking = byte-low
 data-fall false taking = taking
 
 sent-fall :
     {n add : ℕ} {c : Config} {l : Live} {x place : ℕ} {before k : Bool} {h : Handler} {m : List ℕ} {b : Bits} {y : Line}
-    {dd : Plain} {o : Memory} {d : Bool} (t : Bool) → ltb place 7 ≡ t
-    → Rel n add (stateOf (moduleOf c l (Sending x place) (line (Wire true before) k)) h) m (readerOf y (Within false b)) dd o
+    {dd : Plain} {o : Memory} {q : Bool} {d : Bool} (t : Bool) → ltb place 7 ≡ t
+    → Rel n add (stateOf (moduleOf c l (Sending x place) (line (Wire true before) k)) h) m (readerOf y (Within false b)) dd o q
     → Rel n add
     (stateOf (moduleOf c (bitSentIf t l x place .live) (bitSentIf t l x place .phase) (line (Wire false d) false)) h)
-    m (readerOf (line (Wire false d) false) (withinFall (not t) false b)) dd o
+    m (readerOf (line (Wire false d) false) (withinFall (not t) false b)) dd o q
 sent-fall true e (sent-high b y h) =
     rw (← counted b y h) (sent-low {b = pushed b y} (rw (counted b y h) (omega (arith, ltb-true (b .count) 7 e))))
 sent-fall false e (sent-high b y h) = asked-low
@@ -245,10 +246,10 @@ sent-fall false e (sent-high b y h) = asked-low
 -- While a byte is sent, whatever SDA does.
 sends :
     {n add x place : ℕ} {c : Config} {lv : Live} {ln : Line} {h : Handler} {m : List ℕ} {r : Reader} {dd : Plain}
-    {o : Memory} {l d : Bool} {e : Edge}
-    → Rel n add (stateOf (moduleOf c lv (Sending x place) ln) h) m r dd o
+    {o : Memory} {q : Bool} {l d : Bool} {e : Edge}
+    → Rel n add (stateOf (moduleOf c lv (Sending x place) ln) h) m r dd o q
     → Move (ln .remembered) (Wire l d) e
-    → after n add e l d (stateOf (moduleOf c lv (Sending x place) ln) h) m r dd o
+    → after n add e l d (stateOf (moduleOf c lv (Sending x place) ln) h) m r dd o q
 unfolding after
 sends (sent-low h) stays = sent-low h
 sends (sent-low {b = b} h) (rises {sda = y}) = sent-high b y h
@@ -260,10 +261,10 @@ sends (sent-high b y h) stops = resting
 
 -- Every level keeps to the states above.
 looks :
-    {n add : ℕ} {st : State} {m : List ℕ} {r : Reader} {dd : Plain} {o : Memory} {e : Edge} (l d : Bool)
-    → Rel n add st m r dd o
+    {n add : ℕ} {st : State} {m : List ℕ} {r : Reader} {dd : Plain} {o : Memory} {q : Bool} {e : Edge} (l d : Bool)
+    → Rel n add st m r dd o q
     → Move (st .mssp .line .remembered) (Wire (onWire (sclPulled (st .mssp .phase)) l) (onWire (sdaPulled (st .mssp .phase)) d)) e
-    → after n add e (onWire (sclPulled (st .mssp .phase)) l) (onWire (sdaPulled (st .mssp .phase)) d) st m r dd o
+    → after n add e (onWire (sclPulled (st .mssp .phase)) l) (onWire (sdaPulled (st .mssp .phase)) d) st m r dd o q
 unfolding after
 looks l d resting first = resting
 looks l d resting stays = resting
@@ -322,8 +323,8 @@ looks l d asked-high stops = resting
 
 -- A handler call: nothing but SSPIF where the clock is not held; in a hold what the device has done already.
 calls :
-    {n add : ℕ} {st : State} {m : List ℕ} {r : Reader} {dd : Plain} {o : Memory}
-    → Rel n add st m r dd o → Rel n add (called st m .state) (called st m .bytes) r dd o
+    {n add : ℕ} {st : State} {m : List ℕ} {r : Reader} {dd : Plain} {o : Memory} {q : Bool}
+    → Rel n add st m r dd o q → Rel n add (called st m .state) (called st m .bytes) r dd o q
 calls (resting {i = true}) = resting
 calls (resting {i = false}) = resting
 calls (foreign {i = true}) = foreign
@@ -360,8 +361,8 @@ calls (asked-high {i = false}) = asked-high
 
 -- The module runs, and both remember one line.
 running :
-    {n add : ℕ} {st : State} {m : List ℕ} {r : Reader} {dd : Plain} {o : Memory}
-    → Rel n add st m r dd o → (true ≡ st .mssp .config .sspen) × (st .mssp .line ≡ r .line)
+    {n add : ℕ} {st : State} {m : List ℕ} {r : Reader} {dd : Plain} {o : Memory} {q : Bool}
+    → Rel n add st m r dd o q → (true ≡ st .mssp .config .sspen) × (st .mssp .line ≡ r .line)
 running resting = (refl, refl)
 running foreign = (refl, refl)
 running (refused e) = (refl, refl)
@@ -382,7 +383,7 @@ running asked-high = (refl, refl)
 
 -- ---- the invariant of the joint run
 abbrev pub Related : ℕ → ℕ → Joint → Type 0
-Related n add j = Rel n add (j .state) (j .bytes) (j .reader) (j .device) (j .before)
+Related n add j = Rel n add (j .state) (j .bytes) (j .reader) (j .device) (j .before) (j .ninth)
 
 -- A level as both see it, by whether the module runs and by the reader's line.
 abbrev seenBy : ℕ → ℕ → Bool → Line → Bool → Bool → Joint → Type 0
@@ -391,6 +392,7 @@ seenBy n add on y scl sda j =
     (readerOf (lineAfter (y .mark) (edgeOf y scl sda) scl sda) (placeAfter (j .reader .place) (edgeOf y scl sda)))
     (hears n add (heardAt (j .reader .place) (edgeOf y scl sda)) (j .device))
     (beforeAfter (heardAt (j .reader .place) (edgeOf y scl sda)) (j .device .memory) (j .before))
+    (ninthAfter (heardAt (j .reader .place) (edgeOf y scl sda)) (j .ninth))
 
 sampling-kept : (n add : ℕ) (l d : Bool) (j : Joint) → Related n add j → Related n add (step n add j (sample l d))
 unfolding after

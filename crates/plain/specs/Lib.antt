@@ -1,2 +1,3 @@
 pub mod Reader
 pub mod Device
+pub mod Record

@@ -1,0 +1,131 @@
+-- Where the screen's left edge is has no part in what is read. Cut a record anywhere: from the first Start that the reader
+-- of the later part hears, its state is that of the reader of the whole record, at every item after it.
+-- Assumes nothing.
+use Prim.Native.Nat.{ℕ}
+use mathlib.Core.Path.{_≡_, refl, sym, ap, _∙_}
+use mathlib.Core.Bool.{Bool, true, false}
+use mathlib.Core.List.{List, [], _∷_, _++_}
+use native.Mathlib.Omega.{arith}
+use Rattle.wire.specs.declared.Line.{Line}
+use Rattle.wire.specs.declared.Remembered.{Remembered}
+use Rattle.wire.specs.declared.Remembered.the-variants.{Nothing, Wire}
+use Rattle.wire.specs.Byte.{none}
+use Rattle.wire.specs.Wire.{edgeOf}
+use Rattle.plain.specs.declared.Ninth.{Ninth}
+use Rattle.plain.specs.declared.Place.{Place}
+use Rattle.plain.specs.declared.Place.the-variants.{Idle, Within, Ending}
+use Rattle.plain.specs.declared.Heard.{Heard}
+use Rattle.plain.specs.declared.Heard.the-variants.{Silence, Started, Stopped}
+use Rattle.plain.specs.declared.Turn.{Turn}
+use Rattle.plain.specs.declared.Reader.{Reader}
+use Rattle.plain.specs.Reader.{readerOf, heardAt, readerAfter, readerAfresh}
+use Rattle.plain.specs.Record.{Level, level, readOne, readAll, read-joined}
+use Rattle.plain.specs.Device.{owes}
+
+abbrev line : Remembered → Bool → Line
+line seen mark = record { remembered = seen; mark = mark }
+
+-- What the reader hears of a level.
+abbrev pub heardOf : Reader → Level → Heard
+heardOf r (level scl sda) = heardAt (r .place) (edgeOf (r .line) scl sda)
+
+-- A marked reader has just begun a message, and SCL is still high.
+data Sound : Reader → Type 0 where
+  unmarked : {z : Remembered} {p : Place} → Sound (readerOf (line z false) p)
+  marked : {sda : Bool} → Sound (readerOf (line (Wire true sda) true) (Within true none))
+
+-- The reader of the later part has heard no Start yet, and remembers the wire as the other does, or nothing.
+data Behind : Reader → Reader → Type 0 where
+  new : {r : Reader} → Sound r → Behind (readerOf (line Nothing false) Idle) r
+  idle : {z : Remembered} {k : Bool} {p : Place} → Sound (readerOf (line z k) p) → Behind (readerOf (line z false) Idle) (readerOf (line z k) p)
+
+never {ℓ} : {P : Type ℓ} → Silence ≡ Started → P
+never e = absurd (let z : _≡_ {A = ℕ} 0 1 = cc in omega arith)
+
+never-stop {ℓ} : {P : Type ℓ} → Stopped ≡ Started → P
+never-stop e = absurd (let z : _≡_ {A = ℕ} 0 1 = cc in omega arith)
+
+-- ---- every level keeps a reader sound
+sound-kept : {r : Reader} (scl sda : Bool) → Sound r → Sound (readerAfter r scl sda)
+sound-kept false sda (unmarked {z = Nothing}) = unmarked
+sound-kept true sda (unmarked {z = Nothing}) = unmarked
+sound-kept false sda (unmarked {z = Wire false before}) = unmarked
+sound-kept true sda (unmarked {z = Wire false before}) = unmarked
+sound-kept false sda (unmarked {z = Wire true before}) = unmarked
+sound-kept true true (unmarked {z = Wire true true}) = unmarked
+sound-kept true false (unmarked {z = Wire true true}) = marked
+sound-kept true true (unmarked {z = Wire true false}) = unmarked
+sound-kept true false (unmarked {z = Wire true false}) = unmarked
+sound-kept false sda marked = unmarked
+sound-kept true sda marked = marked
+
+sound-all : (ws : List Level) {r : Reader} → Sound r → Sound (readAll r ws)
+sound-all [] s = s
+sound-all (level scl sda ∷ ws) s = sound-all ws (sound-kept scl sda s)
+
+-- ---- a level that is no Start to the later reader keeps it behind
+behind-kept :
+    {q r : Reader} (scl sda : Bool) → Behind q r → (heardOf q (level scl sda) ≡ Started → ⊥)
+    → Behind (readerAfter q scl sda) (readerAfter r scl sda)
+behind-kept false sda (new s) h = idle (sound-kept false sda s)
+behind-kept true sda (new s) h = idle (sound-kept true sda s)
+behind-kept false sda (idle {z = Nothing} s) h = idle (sound-kept false sda s)
+behind-kept true sda (idle {z = Nothing} s) h = idle (sound-kept true sda s)
+behind-kept false sda (idle {z = Wire false before} s) h = idle (sound-kept false sda s)
+behind-kept true sda (idle {z = Wire false before} s) h = idle (sound-kept true sda s)
+behind-kept false sda (idle {z = Wire true before} s) h = idle (sound-kept false sda s)
+behind-kept true true (idle {z = Wire true true} s) h = idle (sound-kept true true s)
+behind-kept true false (idle {z = Wire true true} s) h = absurd (h refl)
+behind-kept true true (idle {z = Wire true false} s) h = idle (sound-kept true true s)
+behind-kept true false (idle {z = Wire true false} s) h = idle (sound-kept true false s)
+
+-- ---- at the first Start that the later reader hears the two meet
+behind-meets :
+    {q r : Reader} (scl sda : Bool) → Behind q r → heardOf q (level scl sda) ≡ Started
+    → readerAfter q scl sda ≡ readerAfter r scl sda
+behind-meets scl sda (new s) h = never h
+behind-meets scl sda (idle {z = Nothing} s) h = never h
+behind-meets false sda (idle {z = Wire false before} s) h = never h
+behind-meets true sda (idle {z = Wire false before} s) h = never h
+behind-meets false sda (idle {z = Wire true before} s) h = never h
+behind-meets true true (idle {z = Wire true true} s) h = never h
+behind-meets true false (idle {z = Wire true true} unmarked) h = refl
+behind-meets true false (idle {z = Wire true true} marked) h = refl
+behind-meets true true (idle {z = Wire true false} s) h = never-stop h
+behind-meets true false (idle {z = Wire true false} s) h = never h
+
+-- No Start is heard in these levels.
+abbrev pub Unheard : Reader → List Level → Type 0
+Unheard r [] = Unit {0}
+Unheard r (w ∷ ws) = (heardOf r w ≡ Started → ⊥) × Unheard (readOne r w) ws
+
+meets :
+    (xs : List Level) (w : Level) {q r : Reader} → Behind q r → Unheard q xs → heardOf (readAll q xs) w ≡ Started
+    → readOne (readAll q xs) w ≡ readOne (readAll r xs) w
+meets [] (level scl sda) b u h = behind-meets scl sda b h
+meets (level scl sda ∷ xs) w b u h = meets xs w (behind-kept scl sda b (u .0)) (u .1) h
+
+-- THE ANSWER: earlier is what the cut takes away; xs and w, up to the first Start heard in what is left; ys, all that follows.
+pub cut-anywhere :
+    (earlier xs : List Level) (w : Level) (ys : List Level) → Unheard readerAfresh xs
+    → heardOf (readAll readerAfresh xs) w ≡ Started
+    → readAll readerAfresh (xs ++ (w ∷ ys)) ≡ readAll readerAfresh (earlier ++ (xs ++ (w ∷ ys)))
+cut-anywhere earlier xs w ys u h =
+    let whole : Reader = readAll readerAfresh earlier in
+    let m : readOne (readAll readerAfresh xs) w ≡ readOne (readAll whole xs) w =
+    meets xs w (new (sound-all earlier unmarked)) u h in
+    read-joined readerAfresh xs (w ∷ ys) ∙ ap (λ (r : Reader). readAll r ys) m ∙ sym (read-joined whole xs (w ∷ ys))
+    ∙ sym (read-joined readerAfresh earlier (xs ++ (w ∷ ys)))
+
+-- So whatever comes next is heard alike from both left edges, an address among it ..
+pub heard-alike :
+    (earlier xs : List Level) (w : Level) (ys : List Level) (next : Level) → Unheard readerAfresh xs
+    → heardOf (readAll readerAfresh xs) w ≡ Started
+    → heardOf (readAll readerAfresh (xs ++ (w ∷ ys))) next ≡ heardOf (readAll readerAfresh (earlier ++ (xs ++ (w ∷ ys)))) next
+heard-alike earlier xs w ys next u h = ap (λ (r : Reader). heardOf r next) (cut-anywhere earlier xs w ys u h)
+
+-- .. and its acknowledge is owed alike, whatever the device was in the middle of.
+pub owed-alike :
+    (add : ℕ) (held scl : Bool) (turn other : Turn) (byte : ℕ) (ninth : Ninth)
+    → owes add held scl (Ending true byte ninth) turn ≡ owes add held scl (Ending true byte ninth) other
+owed-alike add held scl turn other byte ninth = refl
