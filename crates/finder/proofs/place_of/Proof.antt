@@ -1,0 +1,13 @@
+-- `finder::place_of` meets its contract.
+-- Assumes nothing.
+use borrow.Author.Needs.{needs}
+use Rattle.finder.proofs.place_of.Statement.{statement}
+use Rattle.finder.proofs.place_of.Tie as tie
+
+pub place-of-spec : {M : Type 1} → statement M
+place-of-spec =
+    tie.close
+    (tie.spec
+    (λ c. simp (c .if1 .taken))
+    (λ c. search needs)
+    (λ c. search needs))

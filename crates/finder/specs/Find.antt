@@ -1,0 +1,63 @@
+-- What the finder answers (01, "The wire record and the message under the cursor", and refusals 4 and 7 of "Calls,
+-- refusals and their order").
+-- Assumes nothing.
+use Prim.Native.Nat.{ℕ, zero, suc, _+_, _-_}
+use mathlib.Core.List.{List, [], _∷_}
+use mathlib.Core.Bool.{Bool, true, false, cond}
+use lib.ListN.{length, take, drop}
+use lib.Dec.{leb, ltb}
+use Rattle.refusals.specs.declared.Refusal.the-variants.{NoItem, PastRecord}
+use Rattle.refusals.specs.Numbers.{numberOf}
+use Rattle.finder.specs.declared.Place.{Place}
+use Rattle.finder.specs.declared.Place.the-variants.{Outside, Inside}
+use Rattle.finder.specs.declared.Found.{Found}
+use Rattle.finder.specs.declared.Found.the-variants.{Part, Refused}
+use Rattle.finder.specs.Messages.{placeAt, endAt}
+
+-- How many items stand before the first level above 3; the record's length where there is none.
+unfoldable pub firstBad : List ℕ → ℕ
+firstBad [] = zero
+firstBad (level ∷ levels) = cond (leb level 3) (suc (firstBad levels)) zero
+
+-- From its Start up to its end; in no message, an empty part at the item itself.
+abbrev pub partFrom : Place → ℕ → ℕ → Found
+partFrom Outside item end = Part item 0
+partFrom (Inside start) item end = Part start (end - start)
+
+abbrev pub messagePart : List ℕ → ℕ → Found
+messagePart levels item = partFrom (placeAt levels item) item (endAt levels item)
+
+-- Refusal 4 with the first bad item's number, then 7, else the part. The tests: a level is bad, the item is in the record.
+abbrev pub spanIf : Bool → Bool → List ℕ → ℕ → Found
+spanIf true inside levels item = Refused NoItem (firstBad levels)
+spanIf false false levels item = Refused PastRecord 0
+spanIf false true levels item = messagePart levels item
+
+unfoldable pub spanOf : List ℕ → ℕ → Found
+spanOf levels item = spanIf (ltb (firstBad levels) (length levels)) (ltb item (length levels)) levels item
+
+-- The paper's numbers of an answer: the refusal (0 for none), the item beside it, and the part's start and length. A
+-- refused call has the empty part at 0.
+abbrev pub refusalOf : Found → ℕ
+refusalOf (Part start count) = 0
+refusalOf (Refused why item) = numberOf why
+
+abbrev pub itemOf : Found → ℕ
+itemOf (Part start count) = 0
+itemOf (Refused why item) = item
+
+abbrev pub startOf : Found → ℕ
+startOf (Part start count) = start
+startOf (Refused why item) = 0
+
+abbrev pub lengthOf : Found → ℕ
+lengthOf (Part start count) = count
+lengthOf (Refused why item) = 0
+
+-- The items of the part.
+abbrev pub partOf : List ℕ → Found → List ℕ
+partOf levels found = take (lengthOf found) (drop (startOf found) levels)
+
+-- Where they lie, a block and a byte in it: in the record's own memory, no copy.
+abbrev pub partPlace : ℕ × ℕ → Found → ℕ × ℕ
+partPlace memory found = (memory .0, startOf found + memory .1)
