@@ -8,7 +8,7 @@ use lib.ListN.{length, take, getD}
 use lib.Seq.{take-suc}
 use Rattle.mssp.specs.declared.Module.{Module}
 use Rattle.mssp.specs.Valid.{Valid}
-use Rattle.validity.specs.Kept.{sample-kept, access-read-kept, access-write-kept}
+use Rattle.kept.specs.Kept.{sample-kept, access-read-kept, access-write-kept}
 use Rattle.history.specs.declared.Item.{Item}
 use Rattle.history.specs.declared.Item.the-variants.{Sample, Read, Write, Nothing}
 use Rattle.history.specs.History.{itemOf, done, historyOf}

@@ -15,7 +15,8 @@ use Rattle.registers.specs.Values.{byteOf, valueOf, registerOf}
 use Rattle.registers.specs.Writes.{con1Stored, con1Then, written, verdictOf, writeOf}
 use Rattle.refusals.specs.Numbers.{accepted}
 use Rattle.refusals.specs.declared.Verdict.{Verdict}
-use Rattle.readback.specs.Bits.{bits-back, byte-back}
+use Rattle.registers.specs.Bits.{bits-back}
+use Rattle.readback.specs.Bits.{byte-back}
 
 -- What a register of a module holds.
 abbrev pub holds : Register → Module → ℕ
@@ -67,7 +68,7 @@ made :
     ≡ byteOf (bitAfter (bit 7 t) (bit 7 c) b7 (bit 7 v)) (bitAfter (bit 6 t) (bit 6 c) b6 (bit 6 v)) (bitAfter (bit 5 t) (bit 5 c) b5 (bit 5 v)) (bitAfter (bit 4 t) (bit 4 c) b4 (bit 4 v)) (bitAfter (bit 3 t) (bit 3 c) b3 (bit 3 v)) (bitAfter (bit 2 t) (bit 2 c) b2 (bit 2 v)) (bitAfter (bit 1 t) (bit 1 c) b1 (bit 1 v)) (bitAfter (bit 0 t) (bit 0 c) b0 (bit 0 v))
 made t c v b7 b6 b5 b4 b3 b2 b1 b0 =
     let k = bits-back b7 b6 b5 b4 b3 b2 b1 b0 in
-    rw (k .0, k .1, k .2, k .3, k .4, k .5, k .6, k .7)
+    rw (k .is7, k .is6, k .is5, k .is4, k .is3, k .is2, k .is1, k .is0)
 
 con1-kept :
     (off ckp : Bool) (v : ℕ) (m : Module) → ckp ≡ bit 4 v → holds Con1 (con1Then off ckp (con1Stored v m)) ≡ holds Con1 (con1Stored v m)

@@ -27,7 +27,7 @@ use Rattle.registers.specs.declared.Register.{Register}
 use Rattle.registers.specs.declared.Register.the-variants.{Buf, Stat, Con1, Con2, Con3, Add, Msk, Flag, Nowhere}
 use Rattle.registers.specs.Values.{registerOf, afterRead, readOf}
 use Rattle.registers.specs.Writes.{con1Config, con1Stored, con1Then, written, verdictOf, writeOf}
-use Rattle.validity.specs.Edges.{and-both, and-left, and-right, or-left, or-right, edge-stepped, rise-short, eight-kept, mark-kept}
+use Rattle.kept.specs.Edges.{and-both, and-left, and-right, or-left, or-right, edge-stepped, rise-short, eight-kept, mark-kept}
 
 -- ---- set-up
 pub fresh-valid : Valid fresh

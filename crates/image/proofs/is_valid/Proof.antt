@@ -1,0 +1,12 @@
+-- `image::is_valid` meets its contract.
+-- Assumes nothing.
+use borrow.Author.Needs.{needs}
+use Rattle.image.proofs.is_valid.Statement.{statement}
+use Rattle.image.proofs.is_valid.Tie as tie
+
+pub is-valid-spec : {M : Type 1} → statement M
+is-valid-spec =
+    tie.close
+    (tie.spec
+    (λ c κs. search needs) (λ c κs. search needs)
+    (λ c. simp (c .before .module-valid .ensures, c .handler-valid .ensures)))

@@ -1,0 +1,47 @@
+-- The image of a state (01, "Calls, refusals and their order"): exactly 48 bytes, each state one image. The layout is ours.
+-- Assumes nothing.
+use Prim.Native.Nat.{ℕ, _-_}
+use mathlib.Core.Bool.{Bool, true, false, cond, _&&_}
+use mathlib.Core.List.{List, [], _∷_, _++_}
+use lib.Dec.{eqb}
+use lib.ListN.{length, drop, replicate}
+use Rattle.mssp.specs.Valid.{valid}
+use Rattle.firmware.specs.declared.State.{State}
+use Rattle.firmware.specs.Handler.{stateOf}
+use Rattle.module_image.specs.ModulePart.{moduleLength, modulePart, moduleFrom}
+use Rattle.image.specs.HandlerPart.{handlerPart, handlerFrom, handlerValid}
+use Rattle.image.specs.declared.Decoded.{Decoded}
+use Rattle.image.specs.declared.Decoded.the-variants.{Valid, NoImage}
+
+abbrev pub imageLength : ℕ
+imageLength = 48
+
+-- Which states there are: the module's clauses and the handler's.
+abbrev pub validState : State → Bool
+validState s = valid (s .mssp) && handlerValid (s .handler)
+
+-- Zeros after what there is, up to a length.
+abbrev pub padded : ℕ → List ℕ → List ℕ
+padded n bytes = bytes ++ replicate (n - length bytes) 0
+
+-- The module's part, the handler's, and zeros.
+unfoldable pub encodeOf : State → List ℕ
+encodeOf s = padded imageLength (modulePart (s .mssp) ++ handlerPart (s .handler))
+
+-- The state that bytes name, whether they are its image or not.
+unfoldable pub parseOf : List ℕ → State
+parseOf b = stateOf (moduleFrom b) (handlerFrom (drop moduleLength b))
+
+abbrev pub sameBytes : List ℕ → List ℕ → Bool
+sameBytes [] [] = true
+sameBytes [] (y ∷ ys) = false
+sameBytes (x ∷ xs) [] = false
+sameBytes (x ∷ xs) (y ∷ ys) = eqb x y && sameBytes xs ys
+
+-- Bytes are an image if they are just the image of the state that they name, and there is such a state.
+unfoldable pub decodeOf : List ℕ → Decoded
+decodeOf b = cond (sameBytes (encodeOf (parseOf b)) b && validState (parseOf b)) (Valid (parseOf b)) NoImage
+
+-- An image is written only over bytes of its own length; others stay.
+abbrev pub saveOf : State → List ℕ → List ℕ
+saveOf s b = cond (eqb (length b) imageLength) (encodeOf s) b

@@ -1,0 +1,103 @@
+-- Laws of the image that the code's proofs and the theorems cite.
+-- Assumes nothing.
+use Prim.Native.Nat.{ℕ, _-_, _≤_}
+use mathlib.Core.Path.{_≡_, refl, sym, ap, _∙_}
+use mathlib.Core.Bool.{Bool, true, false, true≢false, cond, _&&_}
+use mathlib.Core.List.{List, [], _∷_, _++_, append-nil}
+use mir.Facts.{and-yes}
+use lib.Dec.{T, eqb, eqb→eq}
+use lib.ListN.{length, take, drop, replicate, length-drop, drop-of-length-le}
+use lib.Seq.{take-length, take-all}
+use native.Mathlib.Omega.{arith}
+use borrow.Author.Tests.{eq-eqb}
+use Rattle.mssp.specs.declared.Module.{Module}
+use Rattle.firmware.specs.declared.Handler.{Handler}
+use Rattle.firmware.specs.declared.State.{State}
+use Rattle.firmware.specs.Handler.{stateOf}
+use Rattle.module_image.specs.ModulePart.{moduleLength, modulePart, moduleFrom}
+use Rattle.module_image.specs.Laws.{mark-back, module-back}
+use Rattle.image.specs.HandlerPart.{low, high, word, handlerPart, handlerFrom}
+use Rattle.image.specs.Image.{imageLength, validState, encodeOf, parseOf, sameBytes, decodeOf}
+use Rattle.image.specs.declared.Decoded.{Decoded}
+use Rattle.image.specs.declared.Decoded.the-variants.{Valid, NoImage}
+
+-- ---- a state comes back from its image
+word-back : (n : ℕ) → word (low n) (high n) ≡ n
+word-back n = omega arith
+
+pub handler-back : (h : Handler) (rest : List ℕ) → handlerFrom (handlerPart h ++ rest) ≡ h
+handler-back h rest = simp (word-back, mark-back)
+
+pub parse-encode : (s : State) → parseOf (encodeOf s) ≡ s
+unfolding parseOf encodeOf
+parse-encode s =
+    let zeros : List ℕ = replicate 27 0 in
+    rw (module-back (s .mssp) (handlerPart (s .handler) ++ zeros), handler-back (s .handler) zeros)
+
+pub encode-length : (s : State) → length (encodeOf s) ≡ imageLength
+unfolding encodeOf
+encode-length s = refl
+
+-- ---- equal bytes
+pub same-refl : (xs : List ℕ) → sameBytes xs xs ≡ true
+same-refl [] = refl
+same-refl (x ∷ xs) = simp (eq-eqb x x refl, same-refl xs)
+
+pub same-equal : (xs ys : List ℕ) → T (sameBytes xs ys) → xs ≡ ys
+same-equal [] [] t = refl
+same-equal [] (y ∷ ys) t = absurd t
+same-equal (x ∷ xs) [] t = absurd t
+same-equal (x ∷ xs) (y ∷ ys) t =
+    let both = and-yes (eqb x y) (sameBytes xs ys) t in
+    cc (eqb→eq x y (both .0), same-equal xs ys (both .1))
+
+-- ---- what the code's steps come to
+pub holds : (t : Bool) → T t → t ≡ true
+holds true h = refl
+holds false h = absurd h
+
+fails : (t : Bool) → (T t → ⊥) → t ≡ false
+fails true h = absurd (h tt)
+fails false h = refl
+
+-- The parts copied one after the other over zeros.
+pub joined :
+    (s : State) {first second once twice : List ℕ} → first ≡ modulePart (s .mssp) → second ≡ handlerPart (s .handler)
+    → once ≡ take (length first) first ++ drop (length first) (replicate imageLength 0)
+    → twice ≡ take (length second) second ++ drop (length second) (take (imageLength - moduleLength) (drop moduleLength once))
+    → take moduleLength once ++ (twice ++ drop (imageLength - moduleLength) (drop moduleLength once)) ≡ encodeOf s
+unfolding encodeOf
+joined s e f g h = simp (h, g, f, e)
+
+-- The handler's part is read off what follows the module's.
+pub parsed :
+    (b : List ℕ) {m : Module} {h : Handler} → m ≡ moduleFrom b
+    → h ≡ handlerFrom (take (length b - moduleLength) (drop moduleLength b)) → stateOf m h ≡ parseOf b
+unfolding parseOf
+parsed b e f =
+    let rest : length (drop moduleLength b) ≤ length b - moduleLength = simp length-drop (omega arith) in
+    simp (e, f, take-all (length b - moduleLength) (drop moduleLength b) rest)
+
+-- A comparison that is sound and complete is the definition's.
+compared :
+    (xs ys : List ℕ) (same : Bool) → (same ≡ true → xs ≡ ys) × (xs ≡ ys → same ≡ true) → same ≡ sameBytes xs ys
+compared xs ys true h = rw (h .0 refl) (sym (same-refl ys))
+compared xs ys false h =
+    sym (fails (sameBytes xs ys) (λ t. true≢false (sym (h .1 (same-equal xs ys t)))))
+
+-- Bytes of the right length, by what the two tests together say.
+pub decoded :
+    (b : List ℕ) {s : State} {image : List ℕ} {same good found : Bool} → s ≡ parseOf b → image ≡ encodeOf s
+    → (same ≡ true → image ≡ b) × (image ≡ b → same ≡ true) → good ≡ validState s → same && good ≡ found
+    → cond found (Valid s) NoImage ≡ decodeOf b
+unfolding decodeOf
+decoded b {s} {image} {same} e f g h i = simp (← i, h, compared image b same g, f, e)
+
+-- An image copied over bytes of its length is all there is.
+pub saved :
+    (s : State) (old : List ℕ) {image : List ℕ} → image ≡ encodeOf s → length old ≡ imageLength
+    → take (length image) image ++ drop (length image) old ≡ encodeOf s
+saved s old {image} e l =
+    let k : length image ≡ imageLength = ap length e ∙ encode-length s in
+    let n : length old ≤ length image = omega arith in
+    simp (take-length, drop-of-length-le old n, append-nil) e

@@ -1,0 +1,4 @@
+pub mod HandlerPart
+pub mod Image
+pub mod Laws
+pub mod Theorems

@@ -1,0 +1,54 @@
+// The handler's part of an image: n and the pointer, low byte first, and whether a pointer is due.
+ghost use mathlib.Core.Path.{_≡_};
+ghost use Prim.Native.Nat.{_≤_};
+ghost use lib.ListN.{length};
+ghost use Rattle.image.specs.HandlerPart.{low as lowOf, high as highOf, word as wordOf, handlerPart, handlerFrom, handlerValid};
+use firmware::Handler;
+
+fn low(n: u16) -> u8
+    ensures { λ r. ⌜ r ≡ lowOf n ⌝ }
+{
+    (n % 256) as u8
+}
+
+fn high(n: u16) -> u8
+    ensures { λ r. ⌜ r ≡ highOf n ⌝ }
+{
+    (n / 256) as u8
+}
+
+fn word(lower: u8, upper: u8) -> u16
+    ensures { λ r. ⌜ r ≡ wordOf lower upper ⌝ }
+{
+    (lower as u16) + 256 * (upper as u16)
+}
+
+pub fn handler_part(h: Handler) -> [u8; 5]
+    ensures { λ r. ⌜ r ≡ handlerPart h ⌝ }
+{
+    [
+        low(h.n),
+        high(h.n),
+        low(h.pointer),
+        high(h.pointer),
+        h.due as u8,
+    ]
+}
+
+pub fn handler_from(b: &[u8]) -> Handler
+    requires { ⌜ 5 ≤ length (now b) ⌝ }
+    ensures { λ r. ⌜ r ≡ handlerFrom (now (b .entry)) ⌝ }
+{
+    Handler {
+        n: word(b[0], b[1]),
+        pointer: word(b[2], b[3]),
+        due: b[4] == 1,
+    }
+}
+
+// n from 1 to 256, and a pointer below it.
+pub fn handler_valid(h: Handler) -> bool
+    ensures { λ r. ⌜ r ≡ handlerValid h ⌝ }
+{
+    (1 <= h.n) & (h.n <= 256) & (h.pointer < h.n)
+}

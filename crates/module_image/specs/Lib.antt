@@ -1,0 +1,2 @@
+pub mod ModulePart
+pub mod Laws

@@ -1,0 +1,161 @@
+-- A state stays a state, the module and the handler: after set-up, and after every handler call, item and run.
+-- Assumes nothing.
+use Prim.Native.Nat.{ℕ, _+_, _<_, _≤_}
+use mathlib.Core.Path.{_≡_, refl}
+use mathlib.Core.Bool.{Bool, true, false, true≢false, cond, _&&_, _||_, not}
+use mathlib.Core.List.{List, [], _∷_}
+use native.Mathlib.Omega.{arith}
+use lib.Dec.{eqb, ltb}
+use lib.ListN.{length}
+use borrow.Author.Tests.{eqb-false, ltb-false}
+use Rattle.refusals.specs.declared.Refusal.the-variants.{NoWindow}
+use Rattle.wire.specs.Wire.{sclOf, sdaOf}
+use Rattle.mssp.specs.declared.Module.{Module}
+use Rattle.mssp.specs.Module.{setup}
+use Rattle.mssp.specs.Effects.{emptied, loaded, released}
+use Rattle.mssp.specs.Valid.{Valid}
+use Rattle.registers.specs.declared.Register.the-variants.{Buf}
+use Rattle.kept.specs.Kept.{setup-valid, sample-kept, read-kept, write-kept, con1-kept}
+use Rattle.memory.specs.Memory.{Memory, peeked, put}
+use Rattle.memory.specs.Laws.{positive, modulo-below}
+use Rattle.firmware.specs.declared.Handler.{Handler}
+use Rattle.firmware.specs.declared.State.{State}
+use Rattle.firmware.specs.declared.Made.the-variants.{Ready, Refused}
+use Rattle.firmware.specs.Handler.{handlerOf, stateOf, setupOf, memoryIn, acknowledged, serve, calledIf, called}
+use Rattle.firmware.specs.Window.{windowFits, windowOf}
+use Rattle.trace.specs.Run.{firstBad, stepIf, stepOf, runFrom, runOf}
+use Rattle.trace.specs.Window.{choice, runInOf}
+
+-- The handler's clauses of a state (01, "A state is any setting of .."): n of 1 to 256, the pointer below it.
+pub record ValidHandler (h : Handler) : Type 0 where
+  pub some : 0 < h .n
+  pub most : h .n ≤ 256
+  pub inside : h .pointer < h .n
+
+pub record ValidState (s : State) : Type 0 where
+  pub mssp : Valid (s .mssp)
+  pub handler : ValidHandler (s .handler)
+
+-- ---- the module
+and-not : (on : Bool) → on && not true ≡ false
+and-not true = refl
+and-not false = refl
+
+-- A release is what a write of CKP 1 to CON1 does, but that it leaves mode and SSPEN: so it keeps what 36 (hex, SSPEN 1)
+-- keeps, or 10 (SSPEN 0).
+released-if : (on : Bool) (m : Module) → m .config .sspen ≡ on → Valid m → Valid (released m)
+released-if true m e v =
+    let w = con1-kept false true 54 m (and-not (m .config .sspen)) refl tt v in
+    record { parts = w .parts; condition = v .condition; mode = v .mode; off = rw e tt; mark = w .mark; eight = w .eight; hold = w .hold }
+released-if false m e v =
+    let w = con1-kept false true 16 m (rw e) refl tt v in
+    record { parts = w .parts; condition = v .condition; mode = v .mode; off = rw e (w .off); mark = w .mark; eight = w .eight; hold = w .hold }
+
+pub released-kept : (m : Module) → Valid m → Valid (released m)
+released-kept m v = released-if (m .config .sspen) m refl v
+
+emptied-kept : (m : Module) → Valid m → Valid (emptied m)
+emptied-kept m v = read-kept Buf m v
+
+loaded-kept : (byte : ℕ) (m : Module) → Valid m → Valid (loaded byte m)
+loaded-kept byte m v = write-kept Buf byte m refl v
+
+acknowledged-kept : (s : State) → Valid (s .mssp) → Valid (acknowledged s .mssp)
+acknowledged-kept s v =
+    record { parts = v .parts; condition = v .condition; mode = v .mode; off = v .off; mark = v .mark; eight = v .eight; hold = v .hold }
+
+either : (t : Bool) (m n : Module) → Valid m → Valid n → Valid (cond t m n)
+either true m n v w = v
+either false m n v w = w
+
+module _ (bytes : List ℕ) where
+  serve-module : (sends da : Bool) (s : State) → Valid (s .mssp) → Valid (serve sends da s bytes .state .mssp)
+  serve-module true da s v =
+      let m = s .mssp in
+      let read : Module = cond (m .live .da) m (emptied m) in
+      let byte : ℕ = peeked (memoryIn s bytes) in
+      released-kept (loaded byte read) (loaded-kept byte read (either (m .live .da) m (emptied m) v (emptied-kept m v)))
+  serve-module false true s v = released-kept (emptied (s .mssp)) (emptied-kept (s .mssp) v)
+  serve-module false false s v = released-kept (emptied (s .mssp)) (emptied-kept (s .mssp) v)
+
+  called-module : (flag ckp : Bool) (s : State) → Valid (s .mssp) → Valid (calledIf flag ckp s bytes .state .mssp)
+  called-module false ckp s v = v
+  called-module true true s v = acknowledged-kept s v
+  called-module true false s v = serve-module (s .mssp .live .rw) (s .mssp .live .da) (acknowledged s) (acknowledged-kept s v)
+
+-- ---- the handler
+put-inside : (n : ℕ) (due : Bool) (byte : ℕ) (m : Memory) → 0 < n → put n due byte m .pointer < n
+put-inside n true byte m h = modulo-below n byte h
+put-inside n false byte m h = modulo-below n (m .pointer + 1) h
+
+module _ (bytes : List ℕ) where
+  serve-handler :
+      (sends da : Bool) (s : State) → ValidHandler (s .handler) → ValidHandler (serve sends da s bytes .state .handler)
+  serve-handler true da s v =
+      record { some = v .some; most = v .most; inside = modulo-below (s .handler .n) (s .handler .pointer + 1) (v .some) }
+  serve-handler false true s v =
+      let h = s .handler in
+      record { some = v .some; most = v .most; inside = put-inside (h .n) (h .due) (s .mssp .live .buf) (memoryIn s bytes) (v .some) }
+  serve-handler false false s v = record { some = v .some; most = v .most; inside = v .inside }
+
+  called-handler :
+      (flag ckp : Bool) (s : State) → ValidHandler (s .handler) → ValidHandler (calledIf flag ckp s bytes .state .handler)
+  called-handler false ckp s v = v
+  called-handler true true s v = v
+  called-handler true false s v = serve-handler (s .mssp .live .rw) (s .mssp .live .da) (acknowledged s) v
+
+-- ---- set-up, a call, an item, a run
+neither : (a b : Bool) → a || b ≡ false → (a ≡ false) × (b ≡ false)
+neither true b h = absurd (true≢false h)
+neither false b h = (refl, h)
+
+made-if :
+    (bad : Bool) (add n : ℕ) {s : State} → eqb n 0 || ltb 256 n ≡ bad
+    → cond bad (Refused NoWindow) (Ready (stateOf (setup add) (handlerOf n 0 false))) ≡ Ready s → ValidState s
+made-if true add n e g = let z : _≡_ {A = ℕ} 0 1 = cc in absurd (omega arith)
+made-if false add n {s} e g =
+    let is : stateOf (setup add) (handlerOf n 0 false) ≡ s = cc in
+    let out = neither (eqb n 0) (ltb 256 n) e in
+    let some : 0 < n = positive n (eqb-false n 0 (out .0)) in
+    rw (← is) (record { mssp = setup-valid add; handler = record { some = some; most = ltb-false 256 n (out .1); inside = some } })
+
+-- What set-up makes, whenever it makes one.
+pub setup-kept : (add n : ℕ) {s : State} → setupOf add n ≡ Ready s → ValidState s
+setup-kept add n g = made-if (eqb n 0 || ltb 256 n) add n refl g
+
+pub called-kept : (s : State) (bytes : List ℕ) → ValidState s → ValidState (called s bytes .state)
+called-kept s bytes v =
+    record {
+      mssp = called-module bytes (s .mssp .live .sspif) (s .mssp .live .ckp) s (v .mssp);
+      handler = called-handler bytes (s .mssp .live .sspif) (s .mssp .live .ckp) s (v .handler);
+    }
+
+step-if :
+    (level call : Bool) (s : State) (bytes : List ℕ) (item : ℕ) → ValidState s
+    → ValidState (stepIf level call s bytes item .state)
+step-if true call s bytes item v =
+    record { mssp = sample-kept (s .mssp) (sclOf item) (sdaOf item) (v .mssp); handler = v .handler }
+step-if false true s bytes item v = called-kept s bytes v
+step-if false false s bytes item v = v
+
+pub step-kept : (s : State) (bytes : List ℕ) (item : ℕ) → ValidState s → ValidState (stepOf s bytes item .state)
+step-kept s bytes item v = step-if (ltb item 4) (eqb item 4) s bytes item v
+
+pub run-kept : (s : State) (bytes items : List ℕ) → ValidState s → ValidState (runOf s bytes items .state)
+unfolding runFrom
+run-kept s bytes [] v = v
+run-kept s bytes (x ∷ xs) v = run-kept (stepOf s bytes x .state) (stepOf s bytes x .bytes) xs (step-kept s bytes x v)
+
+run-in-if :
+    (fits bad : Bool) (s : State) (buffer : List ℕ) (start n : ℕ) (items : List ℕ) → ValidState s
+    → ValidState (choice fits bad s buffer start n items .state)
+run-in-if false bad s buffer start n items v = v
+run-in-if true true s buffer start n items v = v
+run-in-if true false s buffer start n items v = run-kept s (windowOf start n buffer) items v
+
+-- Refused or not.
+pub run-in-kept :
+    (s : State) (buffer : List ℕ) (start n : ℕ) (items : List ℕ) → ValidState s
+    → ValidState (runInOf s buffer start n items .state)
+run-in-kept s buffer start n items v =
+    run-in-if (windowFits (length buffer) start n (s .handler .n)) (ltb (firstBad items) (length items)) s buffer start n items v

@@ -1,0 +1,1 @@
+// Set-up, every handler call and every run leave a state: definitions and theorems, no code of its own.

@@ -1,0 +1,20 @@
+-- `trace::run_part` meets its contract.
+-- Assumes nothing.
+use borrow.Author.Needs.{needs}
+use denote.Ref.{now}
+use Rattle.trace.specs.Run.{runOf}
+use Rattle.trace.specs.Laws.{part-back}
+use Rattle.trace.proofs.run_part.Statement.{statement}
+use Rattle.trace.proofs.run_part.Tie as tie
+
+pub run-part-spec : {M : Type 1} → statement M
+run-part-spec =
+    tie.close
+    (tie.spec
+    (λ c. search needs)
+    (λ c. search needs)
+    (λ c. search needs)
+    (λ c. search needs)
+    (λ c κs. search needs)
+    (λ c. search needs)
+    (λ c. let a = c .before .before .before .before .before .before .args in part-back (λ bytes. runOf (a .s) bytes (now (a .items))) (now (a .buffer)) (a .start) (a .n) (c .before .before .run .ensures)))

@@ -1,0 +1,91 @@
+-- The ways through a step, a search and a run: what the code knows on each, and what follows.
+-- Assumes nothing.
+use Prim.Native.Nat.{ℕ, _+_, _-_, _<_, _≤_}
+use mathlib.Core.Path.{_≡_, refl, sym, ap, ap₂, _∙_}
+use mathlib.Core.Bool.{Bool, true, false, not}
+use mathlib.Core.List.{List}
+use native.Mathlib.Omega.{arith}
+use native.Mathlib.Numerals.{add-one}
+use lib.Dec.{eqb, ltb}
+use lib.ListN.{length, drop, getD, drop-of-length-le}
+use lib.Seq.{drop-cons}
+use borrow.Author.Tests.{lt-ltb, le-ltb, le-leb, lt-leb, eq-eqb, ne-eqb, not-true, not-false}
+use Rattle.refusals.specs.declared.Refusal.the-variants.{NoWindow, NoItem}
+use Rattle.refusals.specs.declared.Verdict.the-variants.{Done, Refused}
+use Rattle.firmware.specs.declared.State.{State}
+use Rattle.firmware.specs.Handler.{Served, served, called}
+use Rattle.firmware.specs.Window.{windowFits, windowOf, splice}
+use Rattle.trace.specs.Run.{firstBad, sampledBy, stepIf, stepOf, runFrom}
+use Rattle.trace.specs.Window.{inBuffer, ranIn, outcome, ranOutcome, choice, runInOf}
+
+-- ---- one item
+module _ (s : State) (bytes : List ℕ) (item : ℕ) where
+  by-tests : (a b : Bool) → ltb item 4 ≡ a → eqb item 4 ≡ b → stepIf a b s bytes item ≡ stepOf s bytes item
+  by-tests a b ea eb = sym (ap₂ (λ (x y : Bool). stepIf x y s bytes item) ea eb)
+
+  pub step-samples : item < 4 → {r : State} → r ≡ sampledBy s item → served r bytes ≡ stepOf s bytes item
+  step-samples h e = ap (λ (x : State). served x bytes) e ∙ by-tests true (eqb item 4) (lt-ltb item 4 h) refl
+
+  pub step-calls : item ≡ 4 → {w : Served} → w ≡ called s bytes → w ≡ stepOf s bytes item
+  step-calls h e = e ∙ by-tests false true (le-ltb item 4 (omega arith)) (eq-eqb item 4 h)
+
+  pub step-idle : 4 ≤ item → (item ≡ 4 → ⊥) → served s bytes ≡ stepOf s bytes item
+  step-idle h n = by-tests false false (le-ltb item 4 h) (ne-eqb item 4 n)
+
+-- ---- the first bad item, by what is left of the trace
+module _ (items : List ℕ) (i : ℕ) where
+  pub bad-later :
+      i < length items → getD items i 0 ≤ 4 → i + firstBad (drop i items) ≡ i + 1 + firstBad (drop (i + 1) items)
+  unfolding firstBad
+  bad-later h g = rw (add-one, drop-cons items i 0 h, le-leb (getD items i 0) 4 g) (omega arith)
+
+  pub bad-here : i < length items → 4 < getD items i 0 → i + firstBad (drop i items) ≡ i
+  unfolding firstBad
+  bad-here h g = rw (drop-cons items i 0 h, lt-leb (getD items i 0) 4 g) (omega arith)
+
+  pub bad-nowhere : length items ≤ i → i + firstBad (drop i items) ≡ i
+  unfolding firstBad
+  bad-nowhere h = rw (drop-of-length-le items h) (omega arith)
+
+-- ---- the run, by what is left of the trace
+module _ (items : List ℕ) (i : ℕ) (w : Served) where
+  pub run-next :
+      {v : Served} → i < length items → v ≡ stepOf (w .state) (w .bytes) (getD items i 0)
+      → runFrom v (drop (i + 1) items) ≡ runFrom w (drop i items)
+  unfolding runFrom
+  run-next h e = rw (add-one, drop-cons items i 0 h, e)
+
+  pub run-end : length items ≤ i → runFrom w (drop i items) ≡ w
+  unfolding runFrom
+  run-end h = rw (drop-of-length-le items h)
+
+-- ---- the window
+-- The part that was lent comes back into its place, whatever worked on it.
+pub part-back :
+    (work : List ℕ → Served) (buffer : List ℕ) (start n : ℕ) {r : State} {left : List ℕ}
+    → served r left ≡ work (windowOf start (start + n - start) buffer)
+    → served r (splice start (start + n - start) left buffer) ≡ inBuffer work buffer start n
+part-back work buffer start n e =
+    let k : start + n - start ≡ n = omega arith in
+    let f = rw k at e in
+    rw (k, ← f)
+
+module _ (s : State) (buffer : List ℕ) (start n : ℕ) (items : List ℕ) {f : Bool} (fits : f ≡ windowFits (length buffer) start n (s .handler .n)) where
+  chosen :
+      (a b : Bool) → f ≡ a → ltb (firstBad items) (length items) ≡ b
+      → choice a b s buffer start n items ≡ runInOf s buffer start n items
+  chosen a b ea eb = sym (ap₂ (λ (x y : Bool). choice x y s buffer start n items) (sym fits ∙ ea) eb)
+
+  pub no-window : not f ≡ true → outcome (Refused NoWindow) 0 s buffer ≡ runInOf s buffer start n items
+  no-window h = chosen false (ltb (firstBad items) (length items)) (not-true f h) refl
+
+  module _ (h : not f ≡ false) {bad : ℕ} (first : bad ≡ firstBad items) where
+    pub no-item : bad < length items → outcome (Refused NoItem) bad s buffer ≡ runInOf s buffer start n items
+    no-item l =
+        ap (λ (k : ℕ). outcome (Refused NoItem) k s buffer) first
+        ∙ chosen true true (not-false f h) (rw first at (lt-ltb bad (length items) l))
+
+    pub all-ran :
+        length items ≤ bad → {r : State} {left : List ℕ} → served r left ≡ ranIn s buffer start n items
+        → outcome (Done 0) 0 r left ≡ runInOf s buffer start n items
+    all-ran l e = ap ranOutcome e ∙ chosen true false (not-false f h) (rw first at (le-ltb bad (length items) l))

@@ -1,0 +1,4 @@
+pub mod Run
+pub mod Window
+pub mod Laws
+pub mod Theorems

@@ -1,0 +1,184 @@
+-- What a run is, said without its code: single steps one after the other, over a window that keeps its length, in a buffer
+-- whose other bytes stay; and the first bad item is the first.
+-- Assumes nothing.
+use Prim.Native.Nat.{ℕ, zero, suc, _+_, _<_, _≤_}
+use mathlib.Core.Path.{_≡_, refl, sym, _∙_}
+use mathlib.Core.Bool.{Bool, true, false, true≢false, cond}
+use mathlib.Core.List.{List, [], _∷_, _++_}
+use native.Mathlib.Omega.{arith}
+use lib.Dec.{eqb, leb, ltb}
+use lib.ListN.{length, take, drop, getD, length-set, length-drop}
+use lib.Seq.{take-suc, length-take-le, take-at, drop-at, drop-drop}
+use borrow.Author.Tests.{ltb-true, ltb-false, leb-true, leb-false}
+use Rattle.refusals.specs.Numbers.{accepted}
+use Rattle.memory.specs.Memory.{Memory, put}
+use Rattle.firmware.specs.declared.State.{State}
+use Rattle.firmware.specs.Handler.{Served, acknowledged, memoryIn, serve, calledIf, called}
+use Rattle.firmware.specs.Window.{windowFits, windowOf, splice}
+use Rattle.firmware.specs.Laws.{inside}
+use Rattle.trace.specs.Run.{firstBad, stepIf, stepOf, runFrom, runOf}
+use Rattle.trace.specs.Window.{Outcome, choice, runInOf}
+
+-- ---- a run is its steps
+pub run-joined :
+    (s : State) (bytes xs ys : List ℕ)
+    → runOf s bytes (xs ++ ys) ≡ runOf (runOf s bytes xs .state) (runOf s bytes xs .bytes) ys
+unfolding runFrom
+run-joined s bytes [] ys = refl
+run-joined s bytes (x ∷ xs) ys = run-joined (stepOf s bytes x .state) (stepOf s bytes x .bytes) xs ys
+
+pub run-one : (s : State) (bytes : List ℕ) (item : ℕ) → runOf s bytes (item ∷ []) ≡ stepOf s bytes item
+unfolding runFrom
+run-one s bytes item = refl
+
+-- What the run leaves after item k is that item's step on what it left before: no item is passed over, at any place.
+pub after-each :
+    (s : State) (bytes items : List ℕ) (k : ℕ) → k < length items
+    → let before : Served = runOf s bytes (take k items) in
+    runOf s bytes (take (suc k) items) ≡ stepOf (before .state) (before .bytes) (getD items k 0)
+unfolding runFrom
+after-each s bytes items k h = rw (take-suc items k 0) (run-joined s bytes (take k items) (getD items k 0 ∷ []))
+
+-- ---- the first bad item is the first
+within-if : (good : Bool) (k n : ℕ) → k ≤ n → cond good (suc k) 0 ≤ suc n
+within-if true k n h = omega arith
+within-if false k n h = omega arith
+
+pub first-within : (items : List ℕ) → firstBad items ≤ length items
+unfolding firstBad
+first-within [] = omega arith
+first-within (x ∷ xs) = within-if (leb x 4) (firstBad xs) (length xs) (first-within xs)
+
+before-if :
+    (good : Bool) (x : ℕ) (xs : List ℕ) (k : ℕ) → leb x 4 ≡ good → ((i : ℕ) → i < k → getD xs i 0 ≤ 4)
+    → (i : ℕ) → i < cond good (suc k) 0 → getD (x ∷ xs) i 0 ≤ 4
+before-if true x xs k e f zero h = leb-true x 4 e
+before-if true x xs k e f (suc i) h = f i (omega arith)
+before-if false x xs k e f i h = absurd (omega arith)
+
+-- Every byte before it is an item.
+pub before-first : (items : List ℕ) (i : ℕ) → i < firstBad items → getD items i 0 ≤ 4
+unfolding firstBad
+before-first [] i h = absurd (omega arith)
+before-first (x ∷ xs) i h = before-if (leb x 4) x xs (firstBad xs) refl (before-first xs) i h
+
+at-if :
+    (good : Bool) (x : ℕ) (xs : List ℕ) (k : ℕ) → leb x 4 ≡ good → (k < length xs → 4 < getD xs k 0)
+    → cond good (suc k) 0 < suc (length xs) → 4 < getD (x ∷ xs) (cond good (suc k) 0) 0
+at-if true x xs k e f h = f (omega arith)
+at-if false x xs k e f h = leb-false x 4 e
+
+-- It is none itself, unless the trace has ended.
+pub at-first : (items : List ℕ) → firstBad items < length items → 4 < getD items (firstBad items) 0
+unfolding firstBad
+at-first [] h = absurd (omega arith)
+at-first (x ∷ xs) h = at-if (leb x 4) x xs (firstBad xs) refl (at-first xs) h
+
+-- No other number is: before it items, at it none or the trace's end.
+pub first-only :
+    (items : List ℕ) (k : ℕ) → k ≤ length items → ((i : ℕ) → i < k → getD items i 0 ≤ 4)
+    → (k < length items → 4 < getD items k 0) → k ≡ firstBad items
+first-only items k h f g = earlier (ltb k (firstBad items)) refl
+  where
+    later : (t : Bool) → ltb (firstBad items) k ≡ t → firstBad items ≤ k → k ≡ firstBad items
+    later true e l =
+        let m = ltb-true (firstBad items) k e in
+        let a = f (firstBad items) m in
+        let b = at-first items (omega arith) in
+        absurd (omega arith)
+    later false e l = let m = ltb-false (firstBad items) k e in omega arith
+
+    earlier : (t : Bool) → ltb k (firstBad items) ≡ t → k ≡ firstBad items
+    earlier true e =
+        let m = ltb-true k (firstBad items) e in
+        let a = before-first items k m in
+        let b = g (omega (arith, first-within items)) in
+        absurd (omega arith)
+    earlier false e = later (ltb (firstBad items) k) refl (ltb-false k (firstBad items) e)
+
+-- ---- the window keeps its length
+put-length : (n : ℕ) (due : Bool) (byte : ℕ) (m : Memory) → length (put n due byte m .bytes) ≡ length (m .bytes)
+put-length n true byte m = refl
+put-length n false byte m = simp length-set
+
+serve-length : (sends da : Bool) (s : State) (bytes : List ℕ) → length (serve sends da s bytes .bytes) ≡ length bytes
+serve-length true da s bytes = refl
+serve-length false true s bytes =
+    put-length (s .handler .n) (s .handler .due) (s .mssp .live .buf) (memoryIn s bytes)
+serve-length false false s bytes = refl
+
+called-if : (flag ckp : Bool) (s : State) (bytes : List ℕ) → length (calledIf flag ckp s bytes .bytes) ≡ length bytes
+called-if false ckp s bytes = refl
+called-if true true s bytes = refl
+called-if true false s bytes = serve-length (s .mssp .live .rw) (s .mssp .live .da) (acknowledged s) bytes
+
+pub called-length : (s : State) (bytes : List ℕ) → length (called s bytes .bytes) ≡ length bytes
+called-length s bytes = called-if (s .mssp .live .sspif) (s .mssp .live .ckp) s bytes
+
+step-if : (level call : Bool) (s : State) (bytes : List ℕ) (item : ℕ) → length (stepIf level call s bytes item .bytes) ≡ length bytes
+step-if true call s bytes item = refl
+step-if false true s bytes item = called-length s bytes
+step-if false false s bytes item = refl
+
+pub step-length : (s : State) (bytes : List ℕ) (item : ℕ) → length (stepOf s bytes item .bytes) ≡ length bytes
+step-length s bytes item = step-if (ltb item 4) (eqb item 4) s bytes item
+
+pub run-length : (s : State) (bytes items : List ℕ) → length (runOf s bytes items .bytes) ≡ length bytes
+unfolding runFrom
+run-length s bytes [] = refl
+run-length s bytes (x ∷ xs) = run-length (stepOf s bytes x .state) (stepOf s bytes x .bytes) xs ∙ step-length s bytes x
+
+-- ---- the buffer
+-- A refused run leaves state and buffer as they were.
+refused-if :
+    (fits bad : Bool) (s : State) (buffer : List ℕ) (start n : ℕ) (items : List ℕ)
+    → accepted (choice fits bad s buffer start n items .verdict) ≡ false
+    → (choice fits bad s buffer start n items .state ≡ s) × (choice fits bad s buffer start n items .buffer ≡ buffer)
+refused-if false bad s buffer start n items h = (refl, refl)
+refused-if true true s buffer start n items h = (refl, refl)
+refused-if true false s buffer start n items h = absurd (true≢false h)
+
+pub refused-untouched :
+    (s : State) (buffer : List ℕ) (start n : ℕ) (items : List ℕ) → let r : Outcome = runInOf s buffer start n items in
+    accepted (r .verdict) ≡ false → (r .state ≡ s) × (r .buffer ≡ buffer)
+refused-untouched s buffer start n items h =
+    refused-if (windowFits (length buffer) start n (s .handler .n)) (ltb (firstBad items) (length items)) s buffer start n items h
+
+-- The bytes before a window and those behind it, the same in two buffers.
+pub record SameOutside (start n : ℕ) (before after : List ℕ) : Type 0 where
+  pub below : take start after ≡ take start before
+  pub above : drop (start + n) after ≡ drop (start + n) before
+
+splice-outside :
+    (start n : ℕ) (bytes buffer : List ℕ) → start + n ≤ length buffer → length bytes ≡ n
+    → SameOutside start n buffer (splice start n bytes buffer)
+splice-outside start n bytes buffer h e =
+    let behind : List ℕ = drop n (drop start buffer) in
+    let front : length (take start buffer) ≡ start = length-take-le start buffer (omega arith) in
+    record {
+      below = take-at (take start buffer) (bytes ++ behind) start front;
+      above =
+          sym (drop-drop n start (splice start n bytes buffer))
+          ∙ rw (drop-at (take start buffer) (bytes ++ behind) start front, drop-at bytes behind n e) (drop-drop n start buffer);
+    }
+
+window-length : (start n : ℕ) (buffer : List ℕ) → start + n ≤ length buffer → length (windowOf start n buffer) ≡ n
+window-length start n buffer h = length-take-le n (drop start buffer) (simp length-drop (omega arith))
+
+outside-if :
+    (fits bad : Bool) (s : State) (buffer : List ℕ) (start n : ℕ) (items : List ℕ)
+    → fits ≡ windowFits (length buffer) start n (s .handler .n)
+    → SameOutside start n buffer (choice fits bad s buffer start n items .buffer)
+outside-if false bad s buffer start n items e = record { below = refl; above = refl }
+outside-if true true s buffer start n items e = record { below = refl; above = refl }
+outside-if true false s buffer start n items e =
+    let h : start + n ≤ length buffer = inside (length buffer) start n (s .handler .n) e refl in
+    splice-outside start n (runOf s (windowOf start n buffer) items .bytes) buffer h
+    (run-length s (windowOf start n buffer) items ∙ window-length start n buffer h)
+
+-- The bytes outside the window never change.
+pub outside-kept :
+    (s : State) (buffer : List ℕ) (start n : ℕ) (items : List ℕ)
+    → SameOutside start n buffer (runInOf s buffer start n items .buffer)
+outside-kept s buffer start n items =
+    outside-if (windowFits (length buffer) start n (s .handler .n)) (ltb (firstBad items) (length items)) s buffer start n items refl

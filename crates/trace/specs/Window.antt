@@ -1,0 +1,47 @@
+-- A run over a window of the caller's buffer, and its refusals (01, "Calls, refusals and their order"): 5 before 4.
+-- Assumes nothing.
+use Prim.Native.Nat.{ℕ}
+use mathlib.Core.Bool.{Bool, true, false}
+use mathlib.Core.List.{List}
+use lib.Dec.{ltb}
+use lib.ListN.{length}
+use Rattle.refusals.specs.declared.Refusal.the-variants.{NoWindow, NoItem}
+use Rattle.refusals.specs.declared.Verdict.{Verdict}
+use Rattle.refusals.specs.declared.Verdict.the-variants.{Done, Refused}
+use Rattle.firmware.specs.declared.State.{State}
+use Rattle.firmware.specs.Handler.{Served, served}
+use Rattle.firmware.specs.Window.{windowFits, windowOf, splice}
+use Rattle.trace.specs.Run.{firstBad, runOf}
+
+-- What works on a window, done to the buffer that the window lies in: the bytes outside it stay.
+abbrev pub inBuffer : (List ℕ → Served) → List ℕ → ℕ → ℕ → Served
+inBuffer work buffer start n =
+    let done : Served = work (windowOf start n buffer) in
+    served (done .state) (splice start n (done .bytes) buffer)
+
+abbrev pub ranIn : State → List ℕ → ℕ → ℕ → List ℕ → Served
+ranIn s buffer start n items = inBuffer (λ bytes. runOf s bytes items) buffer start n
+
+-- All that a run decides: the verdict, the item's number beside it, the state and every byte of the buffer.
+pub record Outcome : Type 0 where
+  pub verdict : Verdict
+  pub item : ℕ
+  pub state : State
+  pub buffer : List ℕ
+
+abbrev pub outcome : Verdict → ℕ → State → List ℕ → Outcome
+outcome verdict item s buffer = record { verdict = verdict; item = item; state = s; buffer = buffer }
+
+abbrev pub ranOutcome : Served → Outcome
+ranOutcome w = outcome (Done 0) 0 (w .state) (w .bytes)
+
+-- By whether the window fits and whether an item is bad. Refused, state and buffer stay; beside 4 stands the first bad
+-- item's number.
+abbrev pub choice : Bool → Bool → State → List ℕ → ℕ → ℕ → List ℕ → Outcome
+choice false bad s buffer start n items = outcome (Refused NoWindow) 0 s buffer
+choice true true s buffer start n items = outcome (Refused NoItem) (firstBad items) s buffer
+choice true false s buffer start n items = ranOutcome (ranIn s buffer start n items)
+
+abbrev pub runInOf : State → List ℕ → ℕ → ℕ → List ℕ → Outcome
+runInOf s buffer start n items =
+    choice (windowFits (length buffer) start n (s .handler .n)) (ltb (firstBad items) (length items)) s buffer start n items

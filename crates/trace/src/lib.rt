@@ -1,0 +1,107 @@
+// A run: the items of a trace one after the other, 0 to 3 a sample, 4 a handler call.
+ghost use mathlib.Core.Path.{_≡_};
+ghost use Prim.Native.Nat.{_+_, _≤_};
+ghost use lib.ListN.{length};
+ghost use Rattle.firmware.specs.Handler.{served};
+ghost use Rattle.trace.specs.Run.{firstBad, sampledBy, stepOf, runOf};
+ghost use Rattle.trace.specs.Window.{ranIn, outcome, runInOf};
+use firmware::State;
+use refusals::Refusal;
+use refusals::Verdict;
+
+// What a run answers: the verdict, beside refusal 4 the first bad item's number, and the state after it.
+pub struct Ran {
+    pub verdict: Verdict,
+    pub item: u64,
+    pub state: State,
+}
+
+// The number of the first byte that is no item; the length where there is none.
+pub fn first_bad(items: &[u8]) -> usize
+    ensures { λ r. ⌜ r ≡ firstBad (now (items .entry)) ⌝ }
+{
+    let mut at = 0;
+    while at < items.len() {
+        if items[at] > 4 {
+            return at;
+        }
+        at += 1;
+    }
+    at
+}
+
+// A sample as a number: only the module sees it.
+pub fn sample(s: State, level: u8) -> State
+    ensures { λ r. ⌜ r ≡ sampledBy s level ⌝ }
+{
+    let m = s.mssp;
+    let h = s.handler;
+    let next = sampling::sample(m, level / 2 % 2 == 1, level / 1 % 2 == 1);
+    State {
+        mssp: next,
+        handler: h,
+    }
+}
+
+// One item. A byte that is none changes nothing.
+pub fn step(s: State, window: &mut [u8], item: u8) -> State
+    ensures { λ r. ⌜ served r (now (window .exit)) ≡ stepOf s (now (window .entry)) item ⌝ }
+{
+    if item < 4 {
+        return sample(s, item);
+    }
+    if item == 4 {
+        return firmware::handle(s, window);
+    }
+    s
+}
+
+// All the items, in their order.
+pub fn run(s: State, window: &mut [u8], items: &[u8]) -> State
+    ensures { λ r. ⌜ served r (now (window .exit)) ≡ runOf s (now (window .entry)) (now (items .entry)) ⌝ }
+{
+    let mut t = s;
+    let mut i = 0;
+    while i < items.len() {
+        t = step(t, window, items[i]);
+        i += 1;
+    }
+    t
+}
+
+// The window is lent on: the run sees only its n bytes.
+fn run_part(s: State, buffer: &mut [u8], start: usize, n: usize, items: &[u8]) -> State
+    requires { ⌜ start + n ≤ length (now buffer) ⌝ }
+    ensures { λ r. ⌜ served r (now (buffer .exit)) ≡ ranIn s (now (buffer .entry)) start n (now (items .entry)) ⌝ }
+{
+    let end = start + n;
+    run(s, &mut buffer[start..end], items)
+}
+
+// A run over a window of the caller's buffer. Refused with 5, then with 4, it changes nothing.
+pub fn run_in(s: State, buffer: &mut [u8], start: u64, n: u64, items: &[u8]) -> Ran
+    ensures { λ r. ⌜ outcome (r .verdict) (r .item) (r .state) (now (buffer .exit)) ≡ runInOf s (now (buffer .entry)) start n (now (items .entry)) ⌝ }
+{
+    let wanted = s.handler.n;
+    if !firmware::window_fits(buffer.len(), start, n, wanted) {
+        return Ran {
+            verdict: Verdict::Refused(Refusal::NoWindow),
+            item: 0,
+            state: s,
+        };
+    }
+    let bad = first_bad(items);
+    if bad < items.len() {
+        return Ran {
+            verdict: Verdict::Refused(Refusal::NoItem),
+            item: bad as u64,
+            state: s,
+        };
+    }
+    let next = run_part(s, buffer, start as usize, n as usize, items);
+    Ran {
+        verdict: Verdict::Done(0),
+        item: 0,
+        state: next,
+    }
+}

@@ -1,0 +1,15 @@
+-- `validity::bits_fit` meets its contract.
+-- Assumes nothing.
+use borrow.Author.Needs.{needs}
+use borrow.Author.Tests.{le-leb, lt-leb}
+use Rattle.validity.specs.Laws.{shifted}
+use Rattle.validity.proofs.bits_fit.Statement.{statement}
+use Rattle.validity.proofs.bits_fit.Tie as tie
+
+pub bits-fit-spec : {M : Type 1} → statement M
+bits-fit-spec =
+    tie.close
+    (tie.spec
+    (λ c. search needs) (λ c. search needs) (λ c. search needs)
+    (λ c. simp (le-leb _ _ (c .if1 .taken), shifted _ (c .if1 .taken)))
+    (λ c. simp (lt-leb _ _ (c .if1 .left))))
