@@ -1,0 +1,135 @@
+/* Wherryoar: the model of Microchip's MSSP as an I2C slave, for a host in C.
+
+   A state (module and handler) is an image of WHERRYOAR_STATE_LENGTH bytes in the caller's memory. wherryoar_setup makes
+   one; every other function takes one, and is proved to do what this header says for every input: stray levels, a mangled
+   image, a window past the end of memory.
+
+   - Every call ends, and touches only what it is lent.
+   - A refused call answers the number of the first refusal that applies, in the order 6, 1, 2, 3, 5, 4, 7, and leaves
+     state and buffer exactly as they were.
+   - State, buffer, trace and record must not overlap. A pointer may be null only where its length is 0.
+   - The library keeps no state of its own, allocates nothing and calls nothing: calls on different states may run on
+     different threads at once; two calls on one state or one buffer may not.
+   - An image is good for this version of the library. A version whose images differ gives them another length, so that an
+     older image is refused with 6 and never misread. Its layout is in docs/LAYOUT.md.
+   - Compiled for x86-64.                                                                                             */
+#ifndef WHERRYOAR_H
+#define WHERRYOAR_H
+
+#include <stddef.h>
+#include <stdint.h>
+
+#ifdef __cplusplus
+extern "C" {
+#endif
+
+/* The length of a state's image in bytes. */
+#define WHERRYOAR_STATE_LENGTH 48
+
+/* Refusals. */
+#define WHERRYOAR_DONE 0            /* not refused */
+#define WHERRYOAR_NO_REGISTER 1     /* a register number above 7 */
+#define WHERRYOAR_RESERVED_BIT 2    /* a write sets CON2 bits 4..1 or BOEN */
+#define WHERRYOAR_NO_MODE 3         /* a write to CON1 with SSPEN 1 and SSPM neither 0110 nor 1110 */
+#define WHERRYOAR_NO_ITEM 4         /* a level above 3, an item above 4 */
+#define WHERRYOAR_NO_WINDOW 5       /* window not inside its buffer or not of the setup's length; n outside 1 to 256 */
+#define WHERRYOAR_NO_STATE 6        /* the bytes are no state's image; at setup, not 48 bytes */
+#define WHERRYOAR_PAST_RECORD 7     /* the finder's item number is not below the record's length */
+
+/* Register numbers. */
+#define WHERRYOAR_BUF 0
+#define WHERRYOAR_STAT 1
+#define WHERRYOAR_CON1 2
+#define WHERRYOAR_CON2 3
+#define WHERRYOAR_CON3 4
+#define WHERRYOAR_ADD 5
+#define WHERRYOAR_MSK 6
+#define WHERRYOAR_FLAG 7            /* SSPIF in bit 0 */
+
+/* Phases. */
+#define WHERRYOAR_QUIET 0
+#define WHERRYOAR_ADDRESS 1
+#define WHERRYOAR_DATA 2
+#define WHERRYOAR_HELD_BEFORE_ACKNOWLEDGE 3
+#define WHERRYOAR_SLOT 4
+#define WHERRYOAR_HELD_FOR_SENDING 5
+#define WHERRYOAR_SENDING 6
+#define WHERRYOAR_MASTER_ACKNOWLEDGE 7
+
+/* An item of a trace: a level 0 to 3 (2 * SCL + SDA) is a sample, this one a handler call. */
+#define WHERRYOAR_CALL_ITEM 4
+
+/* What a call answers. */
+typedef struct {
+    uint32_t refusal;   /* 0: done */
+    uint32_t value;     /* read: the register's byte; else 0, and 0 after a refusal */
+    uint64_t item;      /* refusal 4 of a run: the number of the first bad item; else 0 */
+} wherryoar_answer;
+
+/* A part of the caller's record. */
+typedef struct {
+    uint32_t refusal;   /* 0: done */
+    uint64_t item;      /* refusal 4: the number of the first bad level; else 0 */
+    uint64_t start;     /* where the part begins; 0 after a refusal */
+    uint64_t length;    /* how many items it has; 0 where the item lies in no message, and after a refusal */
+} wherryoar_part;
+
+/* What a scope draws of a state. After a refusal every other field is 0. */
+typedef struct {
+    uint32_t refusal;
+    uint8_t buf, stat, con1, con2, con3, add, msk, flag;   /* the eight registers, read without effect */
+    uint8_t scl_pulled, sda_pulled;                        /* 1: the module pulls the line low */
+    uint8_t phase;                                         /* 0 to 7, as above */
+    uint8_t bits;      /* address, data: bits so far, 0 to 8; sending: the place, 0 to 7; else 0 */
+    uint8_t byte;      /* address, data: those bits as a number; sending: the byte; else 0 */
+    uint8_t refused;   /* held before acknowledge: 1 where the byte was refused; else 0 */
+    uint8_t wire;      /* the remembered wire, 0 to 3; 255: none yet */
+    uint8_t mark;      /* 1: a Start has come and SCL has not been low since */
+    uint8_t due;       /* 1: the next data byte is the pointer */
+    uint16_t n;        /* the window's length, 1 to 256 */
+    uint16_t pointer;  /* the handler's pointer, below n */
+} wherryoar_view;
+
+/* Makes a state: a module set up afresh with ADD and a handler over n bytes (CON1 36, CON2 01, CON3 00, MSK FF, pointer 0).
+   Refuses with 6 (state_length is not 48), 5 (n is not 1 to 256). After a refusal the bytes are as they were. */
+wherryoar_answer wherryoar_setup(uint8_t *state, size_t state_length, uint8_t add, uint64_t n);
+
+/* Reads a register; value is its byte. A read of BUF clears BF, other reads change nothing.
+   Refuses with 6 (no state's image), 1 (number above 7). After a refusal the state is as it was. */
+wherryoar_answer wherryoar_read(uint8_t *state, size_t state_length, uint8_t number);
+
+/* Writes a register. WCOL, SSPOV and SSPIF can only be cleared; ACKSTAT and ACKTIM ignore writes; STAT takes SMP and CKE;
+   BUF takes the byte while the clock is held for sending and else sets WCOL; CKP 1 in CON1 ends a hold.
+   Refuses with 6 (no state's image), 1 (number above 7), 2 (CON2 bits 4..1 or BOEN set), 3 (CON1 with SSPEN 1 and another
+   SSPM than 0110 and 1110). After a refusal the state is as it was. */
+wherryoar_answer wherryoar_write(uint8_t *state, size_t state_length, uint8_t number, uint8_t value);
+
+/* Feeds one sample: what everybody else drives, 2 * SCL + SDA. The wire is low where the sample is low or the module pulls.
+   Refuses with 6 (no state's image), 4 (level above 3). After a refusal the state is as it was. */
+wherryoar_answer wherryoar_sample(uint8_t *state, size_t state_length, uint8_t level);
+
+/* Calls the handler once over the n bytes of buffer from start; the bytes outside them never change.
+   Refuses with 6 (no state's image), 5 (the window is not inside the buffer, or n is not the setup's). After a refusal state
+   and buffer are as they were. */
+wherryoar_answer wherryoar_call(uint8_t *state, size_t state_length, uint8_t *buffer, size_t buffer_length,
+                                uint64_t start, uint64_t n);
+
+/* Takes a whole trace: items 0 to 3 are samples, 4 is a handler call; the same as the single calls one after the other.
+   Refuses with 6 (no state's image), 5 (window, as above), 4 (an item above 4; item is the first one's number), before
+   anything is changed. After a refusal state and buffer are as they were. */
+wherryoar_answer wherryoar_run(uint8_t *state, size_t state_length, uint8_t *buffer, size_t buffer_length,
+                               uint64_t start, uint64_t n, const uint8_t *trace, size_t trace_length);
+
+/* What the scope draws of a state; changes nothing. Refuses with 6 (no state's image). */
+wherryoar_view wherryoar_look(const uint8_t *state, size_t state_length);
+
+/* The message that an item of a wire record lies in, as a part of that record: from its Start up to its Stop (included), the
+   next Start (excluded) or the end; an item in no message gives the empty part at it. The record holds wire levels 0 to 3.
+   Refuses with 4 (a level above 3; item is the first one's number), 7 (item not below record_length). */
+wherryoar_part wherryoar_find(const uint8_t *record, size_t record_length, uint64_t item);
+
+#ifdef __cplusplus
+}
+#endif
+
+#endif

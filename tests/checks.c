@@ -1,0 +1,638 @@
+/* Checks through the door the bench examples, the refusals and their order, the state images and the finder. */
+#include "door.h"
+
+#include <stdio.h>
+#include <string.h>
+
+enum { BUF, STAT, CON1, CON2, CON3, ADD, MSK, FLAG };
+
+enum { BF = 0x01, RW = 0x04, S = 0x08, P = 0x10, DA = 0x20, SSPOV = 0x40, WCOL = 0x80 };
+
+enum { MEMORY = 256, GUARD = 8, BUFFER = MEMORY + 2 * GUARD, LONGEST = 4096 };
+
+/* The state under check, its buffer with the window at GUARD, and the counts. */
+static uint8_t image[DOOR_IMAGE];
+static uint8_t buffer[BUFFER];
+static uint64_t length_n;
+static unsigned long checks, failures;
+
+/* Counts a check and tells it when it fails. */
+static void expect(int fine, const char *what)
+{
+    checks++;
+    if (!fine) {
+        failures++;
+        printf("failed: %s\n", what);
+    }
+}
+
+/* Whether an answer is this refusal with this item and no value. */
+static int is_refusal(door_answer a, unsigned refusal, uint64_t item)
+{
+    return a.refusal == refusal && a.item == item && a.value == 0;
+}
+
+/* ---- Driving ---- */
+
+/* A fresh state and a zero memory. */
+static void fresh(uint8_t add, uint64_t n)
+{
+    memset(buffer, 0, BUFFER);
+    length_n = n;
+    expect(is_refusal(door.setup(image, DOOR_IMAGE, add, n), 0, 0), "setup");
+}
+
+/* Runs a trace written as digits and h, spaces skipped. */
+static void items(const char *text)
+{
+    uint8_t trace[LONGEST];
+    size_t length = 0;
+
+    for (; *text != '\0'; text++)
+        if (*text != ' ')
+            trace[length++] = (uint8_t)(*text == 'h' ? 4 : *text - '0');
+    expect(is_refusal(door.run(image, DOOR_IMAGE, buffer, BUFFER, GUARD, length_n, trace, length), 0, 0), "run");
+}
+
+/* The eight bits of a byte, up to and with its eighth fall. */
+static void bits(unsigned value)
+{
+    int i;
+
+    for (i = 7; i >= 0; i--)
+        items((value >> i) & 1 ? "131" : "020");
+}
+
+/* A byte with a released ninth slot and one handler call. */
+static void written(unsigned value)
+{
+    bits(value);
+    items("131h");
+}
+
+/* A byte read off the wire, the master answering with this SDA and one handler call after it. */
+static unsigned sent(int answer)
+{
+    unsigned value = 0;
+    int i;
+
+    for (i = 0; i < 8; i++) {
+        items("13");
+        value = value << 1 | (door.look(image, DOOR_IMAGE).wire & 1u);
+        items("1");
+    }
+    items(answer ? "131h" : "020h");
+    return value;
+}
+
+/* A register as it reads, without effect. */
+static unsigned reg(int number)
+{
+    return image[number];
+}
+
+/* A register write that must be taken. */
+static void put(uint8_t number, uint8_t value)
+{
+    expect(is_refusal(door.write(image, DOOR_IMAGE, number, value), 0, 0), "write");
+}
+
+/* The state as it is seen now. */
+static door_view now(void)
+{
+    return door.look(image, DOOR_IMAGE);
+}
+
+/* ---- Bench examples ---- */
+
+/* P1 to P5: first levels and the trace with the report. */
+static void bench_levels(void)
+{
+    fresh(0x30, 32);
+    items("2");
+    expect(!(reg(STAT) & S), "P1");
+    fresh(0x30, 32);
+    items("32");
+    expect((reg(STAT) & S) != 0, "P2");
+    items("3");
+    expect((reg(STAT) & (S | P)) == S, "P3");
+    fresh(0x30, 32);
+    items("30");
+    expect(!(reg(STAT) & S), "P4");
+    fresh(0x30, 32);
+    items("32 0202 1313 0202 0202 131h023");
+    expect(now().pointer == 0 && (reg(STAT) & (P | BF)) == P, "P5");
+}
+
+/* Whether an address is acknowledged after this write. */
+static int acknowledged(uint8_t number, uint8_t value, unsigned address)
+{
+    fresh(0x30, 32);
+    put(number, value);
+    items("320");
+    bits(address);
+    return now().sda_pulled;
+}
+
+/* P6 and P7: mask and general call. */
+static void bench_addresses(void)
+{
+    expect(acknowledged(MSK, 0xF0, 0x3E), "P6 3E");
+    expect(!acknowledged(MSK, 0xF0, 0x40), "P6 40");
+    expect(acknowledged(CON2, 0x81, 0x00), "P7 00");
+    expect(!acknowledged(CON2, 0x81, 0x01), "P7 01");
+}
+
+/* P8 and P9: overflow. */
+static void bench_overflow(void)
+{
+    fresh(0x30, 32);
+    put(CON2, 0x00);
+    items("320");
+    bits(0x30);
+    items("131");
+    bits(0x55);
+    expect((reg(CON1) & SSPOV) && reg(BUF) == 0x30 && !now().sda_pulled, "P8");
+    items("131 023");
+    expect(door.read(image, DOOR_IMAGE, BUF).value == 0x30, "read of BUF");
+    items("320");
+    bits(0x30);
+    expect((reg(CON1) & SSPOV) && (reg(STAT) & BF) && !now().sda_pulled, "P9");
+}
+
+/* P10 and P11: pointer and wrap in writing. */
+static void bench_pointer(void)
+{
+    fresh(0x30, 32);
+    items("320");
+    written(0x30);
+    written(0x1F);
+    written(0xAA);
+    written(0xBB);
+    expect(buffer[GUARD + 31] == 0xAA && buffer[GUARD] == 0xBB && now().pointer == 1, "P10");
+    fresh(0x30, 32);
+    items("320");
+    written(0x30);
+    written(0xFF);
+    expect(now().pointer == 31, "P11 FF");
+    items("023 320");
+    written(0x30);
+    written(0x20);
+    expect(now().pointer == 0, "P11 20");
+    fresh(0x30, 1);
+    items("320");
+    written(0x30);
+    written(0xFF);
+    expect(now().pointer == 0, "P11 n 1");
+}
+
+/* P12 and the unmarked example: reading, whole and cut. */
+static void bench_reading(void)
+{
+    unsigned first, second, third;
+
+    fresh(0x30, 32);
+    buffer[GUARD + 30] = 0xC3;
+    buffer[GUARD + 31] = 0x5A;
+    buffer[GUARD] = 0x01;
+    items("320");
+    written(0x30);
+    written(30);
+    items("1320");
+    written(0x31);
+    first = sent(0);
+    second = sent(0);
+    third = sent(1);
+    expect(first == 0xC3 && second == 0x5A && third == 0x01 && now().pointer == 1, "P12");
+    fresh(0x30, 32);
+    buffer[GUARD] = 0xFF;
+    items("320");
+    written(0x31);
+    items("13 13 13 023");
+    expect(now().pointer == 1 && !(reg(STAT) & BF), "read cut by a Stop");
+    items("320");
+    bits(0x30);
+    expect(now().sda_pulled == 1, "address after a cut read");
+}
+
+/* ---- Rules with a sentence of their own ---- */
+
+/* SSPEN from 1 to 0: what is cleared and what stays. */
+static void rule_disabling(void)
+{
+    fresh(0x30, 32);
+    put(CON3, 0x03);
+    put(CON2, 0x81);
+    items("320");
+    bits(0x31);
+    expect(now().phase == DOOR_HELD_BEFORE && reg(CON3) == 0x83 && (reg(STAT) & (S | RW | BF)) == (S | RW | BF),
+           "held before acknowledge");
+    put(BUF, 0x77);
+    expect(reg(CON1) == (WCOL | 0x26) && reg(BUF) == 0x31, "a write to BUF in another hold only sets WCOL");
+    put(CON1, 0x86);
+    expect(reg(STAT) == 0 && reg(CON3) == 0x03 && now().phase == DOOR_QUIET && now().scl_pulled == 0, "disabled");
+    expect(reg(CON1) == 0x86 && reg(BUF) == 0x31 && reg(FLAG) == 1 && now().wire == 1, "disabling leaves the rest");
+    items("h");
+    expect(reg(CON1) == 0x96 && reg(FLAG) == 0 && now().due == 1 && reg(STAT) == 0, "a handler call while disabled");
+    put(CON1, 0x06);
+    put(BUF, 0x77);
+    expect(reg(CON1) == 0x86 && reg(BUF) == 0x31 && reg(STAT) == 0, "a write to BUF while disabled sets WCOL");
+    items("3 2 3");
+    expect(reg(STAT) == 0 && now().wire == 3, "disabled, only the wire is remembered");
+    put(CON1, 0x36);
+    items("2");
+    expect((reg(STAT) & S) && now().mark == 1, "a Start from the wire remembered while disabled");
+    put(CON1, 0x16);
+    expect(now().mark == 0 && !(reg(STAT) & S), "disabling clears the mark");
+}
+
+/* SSPEN from 1 to 0 after a Stop and after data: P and D/A; SSPOV stays unless written 0. */
+static void rule_disabling_later(void)
+{
+    fresh(0x30, 32);
+    put(CON2, 0x00);
+    items("320");
+    bits(0x30);
+    items("131");
+    bits(0x44);
+    items("131 023");
+    expect((reg(STAT) & (P | DA | BF)) == (P | DA | BF) && (reg(CON1) & SSPOV), "Stop leaves D/A and BF");
+    put(CON1, 0x56);
+    expect(reg(STAT) == 0 && reg(CON1) == 0x56, "disabling clears P, D/A and BF and leaves SSPOV");
+    put(CON1, 0xF6);
+    expect(reg(CON1) == 0x76, "WCOL cannot be set by a write");
+    put(CON1, 0x36);
+    expect(reg(CON1) == 0x36, "SSPOV can be cleared by a write");
+}
+
+/* A refused byte is held all the same, and not acknowledged after the release whatever ACKDT says. */
+static void rule_refused_hold(void)
+{
+    fresh(0x30, 32);
+    put(CON2, 0x00);
+    put(CON3, 0x01);
+    items("320");
+    bits(0x30);
+    items("131");
+    put(FLAG, 0x00);
+    bits(0x44);
+    expect(now().phase == DOOR_HELD_BEFORE && now().refused == 1 && reg(FLAG) == 1, "refused and held");
+    put(CON1, (uint8_t)(reg(CON1) | 0x10));
+    expect(now().phase == DOOR_SLOT && now().sda_pulled == 0 && (reg(CON3) & 0x80), "refused: no pull after release");
+    put(FLAG, 0x00);
+    items("13");
+    expect(!(reg(CON3) & 0x80), "the ninth rise ends ACKTIM");
+    items("1");
+    expect(now().phase == DOOR_QUIET && reg(FLAG) == 0, "a slot without pull: quiet and no SSPIF");
+}
+
+/* ---- Readings for states that no trace from setup reaches ---- */
+
+/* A state put together: STAT, CON1, CON3, phase with its three parts, wire; n is 1. */
+static void made(unsigned stat, unsigned con1, unsigned con3, int phase, unsigned yes, unsigned wire)
+{
+    fresh(0x30, 1);
+    image[STAT] = (uint8_t)stat;
+    image[CON1] = (uint8_t)con1;
+    image[CON3] = (uint8_t)con3;
+    image[8] = (uint8_t)phase;
+    image[11] = (uint8_t)yes;
+    image[12] = (uint8_t)wire;
+    expect(now().refusal == 0, "a state put together");
+}
+
+/* Each is a reading of one sentence; NOTES.md tells which. */
+static void readings(void)
+{
+    made(S, 0x36, 0x82, DOOR_SLOT, 1, 3);
+    items("1");
+    expect(now().phase == DOOR_DATA && reg(CON3) == 0x82, "reading: a ninth fall without its rise leaves ACKTIM");
+    made(S | DA | RW, 0x36, 0x00, DOOR_SLOT, 1, 2);
+    items("0");
+    expect(now().phase == DOOR_DATA, "reading: D/A tells whether the slot was an address's");
+    made(S | DA | RW, 0x36, 0x82, DOOR_MASTER_ACK, 0, 1);
+    items("3");
+    expect(reg(CON3) == 0x82, "reading: the master's acknowledge leaves ACKTIM");
+    made(S | DA | RW | BF, 0x36, 0x00, DOOR_MASTER_ACK, 0, 3);
+    items("2");
+    expect((reg(STAT) & BF) != 0, "reading: a Start in the master's acknowledge leaves BF");
+    made(S | RW | BF, 0x36, 0x82, DOOR_SLOT, 0, 3);
+    items("2");
+    expect(reg(STAT) == (S | BF) && reg(CON3) == 0x02, "a Start ends ACKTIM");
+    made(S, 0x26, 0x00, DOOR_DATA, 1, 3);
+    items("3");
+    expect(now().phase == DOOR_DATA && now().bits == 0 && now().wire == 1, "reading: a hold's fall ends no bit");
+    made(S, 0x36, 0x00, DOOR_SLOT, 1, 255);
+    items("1");
+    expect(now().phase == DOOR_SLOT && now().wire == 0, "the first sample is only remembered, in every phase");
+    made(DA | BF, 0x16, 0x80, DOOR_QUIET, 0, 3);
+    put(CON1, 0x06);
+    expect(reg(STAT) == (DA | BF) && reg(CON3) == 0x80, "SSPEN 0 written over SSPEN 0 clears nothing");
+    made(DA | RW | BF, 0x26, 0x00, DOOR_QUIET, 0, 3);
+    image[FLAG] = 1;
+    items("h");
+    expect((reg(STAT) & BF) && reg(CON1) == 0xB6, "reading: the handler's load outside the hold sets WCOL, BF stays");
+}
+
+/* ---- Refusals ---- */
+
+/* Refusals at setup, in register access and in a sample; each leaves the state as it was. */
+static void refusals_single(void)
+{
+    uint8_t old[DOOR_IMAGE];
+
+    fresh(0x30, 32);
+    memcpy(old, image, DOOR_IMAGE);
+    expect(is_refusal(door.setup(image, 47, 0, 0), 6, 0), "setup: 6 before 5");
+    expect(is_refusal(door.setup(image, 48, 0, 0), 5, 0), "setup: n 0");
+    expect(is_refusal(door.setup(image, 48, 0, 257), 5, 0), "setup: n 257");
+    expect(is_refusal(door.setup(image, 48, 0, UINT64_MAX), 5, 0), "setup: n of all ones");
+    expect(is_refusal(door.read(image, 49, 9), 6, 0), "read: 6 before 1");
+    expect(is_refusal(door.read(image, 48, 8), 1, 0), "read: 1");
+    expect(is_refusal(door.write(image, 0, 9, 0), 6, 0), "write: 6 before 1");
+    expect(is_refusal(door.write(image, 48, 255, 0xFF), 1, 0), "write: 1");
+    expect(is_refusal(door.write(image, 48, CON2, 0x02), 2, 0), "write: master only");
+    expect(is_refusal(door.write(image, 48, CON2, 0x10), 2, 0), "write: master only, the highest");
+    expect(is_refusal(door.write(image, 48, CON3, 0x10), 2, 0), "write: BOEN");
+    expect(is_refusal(door.write(image, 48, CON1, 0x27), 3, 0), "write: mode");
+    expect(is_refusal(door.sample(image, 47, 4), 6, 0), "sample: 6 before 4");
+    expect(is_refusal(door.sample(image, 48, 4), 4, 0), "sample: 4");
+    expect(memcmp(old, image, DOOR_IMAGE) == 0, "refusals leave the state");
+    put(CON1, 0x17);
+    expect(reg(CON1) == 0x17, "any mode with SSPEN 0");
+}
+
+/* Refusals of windows and traces, in their order, without a sum that wraps. */
+static void refusals_run(void)
+{
+    static const uint8_t good[3] = {3, 2, 4}, bad[4] = {3, 2, 5, 255};
+    uint8_t old[DOOR_IMAGE];
+
+    fresh(0x30, 32);
+    memcpy(old, image, DOOR_IMAGE);
+    expect(is_refusal(door.call(image, 48, buffer, 40, 9, 32), 5, 0), "window over the end");
+    expect(is_refusal(door.call(image, 48, buffer, 40, 0, 31), 5, 0), "window of another length");
+    expect(is_refusal(door.call(image, 48, buffer, 40, UINT64_MAX, 32), 5, 0), "start of all ones");
+    expect(is_refusal(door.call(image, 48, buffer, 40, UINT64_MAX - 31, 32), 5, 0), "sum that would wrap to 0");
+    expect(is_refusal(door.call(image, 48, buffer, 40, 8, UINT64_MAX - 7), 5, 0), "n that would wrap");
+    expect(is_refusal(door.call(image, 48, buffer, 31, 0, 32), 5, 0), "buffer too short");
+    expect(is_refusal(door.call(image, 47, buffer, 31, 0, 32), 6, 0), "call: 6 before 5");
+    expect(is_refusal(door.run(image, 47, buffer, 31, 0, 32, bad, 4), 6, 0), "run: 6 first");
+    expect(is_refusal(door.run(image, 48, buffer, 31, 0, 32, bad, 4), 5, 0), "run: 5 before 4");
+    expect(is_refusal(door.run(image, 48, buffer, 31, 0, 32, good, 2), 5, 0), "run: 5 without a handler call");
+    expect(is_refusal(door.run(image, 48, buffer, 40, 8, 32, bad, 4), 4, 2), "run: the first bad item");
+    expect(memcmp(old, image, DOOR_IMAGE) == 0, "refused runs leave the state");
+    expect(is_refusal(door.run(image, 48, buffer, 40, 8, 32, good, 0), 0, 0), "run of no items");
+    expect(memcmp(old, image, DOOR_IMAGE) == 0, "a run of no items leaves the state");
+    expect(is_refusal(door.run(image, 48, buffer, 40, 8, 32, good, 3), 0, 0), "run");
+    expect(image[12] == 2, "a run is made");
+}
+
+/* ---- State images ---- */
+
+/* The paper's clauses on registers, straight off the image. */
+static int registers_are_a_states(const uint8_t *i)
+{
+    int enabled = (i[CON1] & 0x20) != 0;
+
+    return (i[STAT] & 0x18) != 0x18 && (i[STAT] & 0x02) == 0 && (i[CON3] & 0x10) == 0 && (i[CON2] & 0x1E) == 0
+        && i[FLAG] <= 1 && (!enabled || (i[CON1] & 0x07) == 0x06)
+        && (enabled || (i[8] == DOOR_QUIET && i[13] == 0));
+}
+
+/* The parts of each phase, straight off the image. */
+static int phase_is_a_states(const uint8_t *i)
+{
+    int clear = i[9] == 0 && i[10] == 0;
+    int none = clear && i[11] == 0;
+    int ckp = (i[CON1] & 0x10) != 0;
+    int high = i[12] == 2 || i[12] == 3;
+
+    switch (i[8]) {
+    case DOOR_QUIET:
+    case DOOR_MASTER_ACK:
+        return none;
+    case DOOR_ADDRESS:
+        return i[9] <= 8 && i[10] < (1 << i[9]) && i[11] == 0 && (i[9] < 8 || high);
+    case DOOR_DATA:
+        if (i[11] == 1)
+            return clear && !ckp;
+        return i[9] <= 8 && i[10] < (1 << i[9]) && i[11] == 0 && (i[9] < 8 || high);
+    case DOOR_HELD_BEFORE:
+        return clear && i[11] <= 1 && !ckp;
+    case DOOR_SLOT:
+        return clear && i[11] <= 1;
+    case DOOR_HELD_SENDING:
+        return none && !ckp;
+    case DOOR_SENDING:
+        return i[9] <= 7 && i[11] == 0;
+    default:
+        return 0;
+    }
+}
+
+/* Whether 48 bytes are a state's image, straight off the image. */
+static int is_a_state(const uint8_t *i)
+{
+    unsigned n = i[16] + 256u * i[17], pointer = i[18] + 256u * i[19];
+    int place, marked = (i[STAT] & S) != 0 && (i[12] == 2 || i[12] == 3) && i[8] == DOOR_ADDRESS && i[9] == 0;
+
+    for (place = 14; place < DOOR_IMAGE; place++)
+        if (i[place] != 0 && (place < 16 || place > 20))
+            return 0;
+    if (i[12] > 3 && i[12] != 255)
+        return 0;
+    if (i[13] > 1 || (i[13] == 1 && !marked))
+        return 0;
+    if (n < 1 || n > 256 || pointer >= n || i[20] > 1)
+        return 0;
+    return registers_are_a_states(i) && phase_is_a_states(i);
+}
+
+static uint64_t seed = 88172645463325252u;
+
+/* The next random number below a limit. */
+static unsigned below(unsigned limit)
+{
+    seed ^= seed << 13;
+    seed ^= seed >> 7;
+    seed ^= seed << 17;
+    return (unsigned)(seed >> 33) % limit;
+}
+
+/* Random bytes near enough to an image that many are a state's. */
+static void near_image(uint8_t *i)
+{
+    static const unsigned lengths[6] = {1, 2, 32, 255, 256, 257};
+    unsigned n = lengths[below(6)], pointer = below(20) ? below(n) : below(300);
+    unsigned shift = below(9), strange = below(DOOR_IMAGE);
+    int place;
+
+    memset(i, 0, DOOR_IMAGE);
+    for (place = 0; place < 8; place++)
+        i[place] = (uint8_t)below(256);
+    i[STAT] &= below(4) ? 0xED : 0xFF;
+    i[CON1] = (uint8_t)((i[CON1] & (below(2) ? 0xF8 : 0xE8)) | 0x06);
+    i[CON2] &= below(16) ? 0xE1 : 0xFF;
+    i[CON3] &= below(16) ? 0xEF : 0xFF;
+    i[FLAG] &= below(16) ? 0x01 : 0xFF;
+    i[8] = (uint8_t)below(below(16) ? 8 : 256);
+    i[9] = (uint8_t)(below(2) ? below(10) : 0);
+    i[10] = (uint8_t)(below(2) ? below(1u << (i[9] < 8 ? i[9] : 8)) : below(256) >> shift);
+    i[11] = (uint8_t)(below(2) ? below(3) : 0);
+    i[12] = (uint8_t)(below(4) ? below(5) : 255);
+    i[13] = (uint8_t)(below(4) ? 0 : below(3));
+    i[16] = (uint8_t)n;
+    i[17] = (uint8_t)(n >> 8);
+    i[18] = (uint8_t)pointer;
+    i[19] = (uint8_t)(pointer >> 8);
+    i[20] = (uint8_t)below(below(8) ? 2 : 256);
+    if (!below(16))
+        i[strange] = (uint8_t)below(256);
+}
+
+/* Any call on the image under check; a state stays a state, and only reads and writes may be refused. */
+static void any_call(unsigned n)
+{
+    unsigned pick = below(6), number = below(9), value = below(256);
+    door_answer a;
+
+    if (pick == 0)
+        a = door.read(image, DOOR_IMAGE, (uint8_t)number);
+    else if (pick == 1)
+        a = door.write(image, DOOR_IMAGE, (uint8_t)number, (uint8_t)value);
+    else if (pick == 2)
+        a = door.call(image, DOOR_IMAGE, buffer, BUFFER, GUARD, n);
+    else
+        a = door.sample(image, DOOR_IMAGE, (uint8_t)(value & 3));
+    expect(is_a_state(image), "a state stays a state");
+    expect(a.refusal == 0 || pick < 2, "nothing refused on a state");
+}
+
+/* Whether every field of a view but the refusal is 0. */
+static int is_empty(door_view v)
+{
+    return !(v.buf | v.stat | v.con1 | v.con2 | v.con3 | v.add | v.msk | v.flag | v.scl_pulled | v.sda_pulled
+             | v.phase | v.bits | v.byte | v.refused | v.wire | v.mark | v.due | v.n | v.pointer);
+}
+
+/* Random images: refused exactly when no state's, and then untouched. */
+static void images(unsigned long rounds)
+{
+    static const uint8_t quiet_trace[1] = {3};
+    unsigned long states = 0;
+    uint8_t old[DOOR_IMAGE];
+
+    while (rounds-- > 0) {
+        near_image(image);
+        memcpy(old, image, DOOR_IMAGE);
+        if (is_a_state(image)) {
+            unsigned n = image[16] + 256u * image[17], i;
+
+            states++;
+            expect(now().refusal == 0, "look on a state");
+            for (i = 0; i < 6; i++)
+                any_call(n);
+            continue;
+        }
+        expect(now().refusal == 6 && is_empty(now()), "look on no state");
+        expect(is_refusal(door.read(image, DOOR_IMAGE, 0), 6, 0), "read on no state");
+        expect(is_refusal(door.write(image, DOOR_IMAGE, CON1, 0), 6, 0), "write on no state");
+        expect(is_refusal(door.sample(image, DOOR_IMAGE, 3), 6, 0), "sample on no state");
+        expect(is_refusal(door.call(image, DOOR_IMAGE, buffer, BUFFER, 0, 1), 6, 0), "call on no state");
+        expect(is_refusal(door.run(image, DOOR_IMAGE, buffer, BUFFER, 0, 1, quiet_trace, 1), 6, 0), "run on no state");
+        expect(memcmp(old, image, DOOR_IMAGE) == 0, "no state stays untouched");
+    }
+    printf("images that were states %lu\n", states);
+}
+
+/* ---- The finder ---- */
+
+/* Whether the finder gives this part for an item. */
+static int found(const uint8_t *record, size_t length, uint64_t item, uint64_t start, uint64_t part)
+{
+    door_part p = door.find(record, length, item);
+
+    return p.refusal == 0 && p.item == 0 && p.start == start && p.length == part;
+}
+
+/* Refusals of the finder, and records written out. */
+static void finder(void)
+{
+    static const uint8_t record[14] = {2, 3, 2, 3, 2, 0, 1, 3, 2, 0, 2, 3, 3, 0};
+    static const uint8_t bad[4] = {3, 2, 7, 9};
+    door_part p = door.find(bad, 4, 99);
+
+    expect(p.refusal == 4 && p.item == 2 && p.start == 0 && p.length == 0, "find: 4 before 7");
+    p = door.find(record, 14, 14);
+    expect(p.refusal == 7 && p.item == 0 && p.start == 0 && p.length == 0, "find: 7");
+    p = door.find(record, 14, UINT64_MAX);
+    expect(p.refusal == 7 && p.item == 0, "find: item of all ones");
+    p = door.find(record, 0, 0);
+    expect(p.refusal == 7 && p.item == 0, "find: an empty record");
+    expect(found(record, 14, 0, 0, 0), "find: the first item");
+    expect(found(record, 14, 1, 1, 0), "find: a Stop before any Start");
+    expect(found(record, 14, 2, 2, 6), "find: at a Start");
+    expect(found(record, 14, 7, 2, 6), "find: the item before the next Start");
+    expect(found(record, 14, 8, 8, 4), "find: at the next Start");
+    expect(found(record, 14, 11, 8, 4), "find: at a Stop");
+    expect(found(record, 14, 12, 12, 0), "find: after a Stop");
+    expect(found(record, 10, 9, 8, 2), "find: up to the end");
+}
+
+/* The Start and Stop of item i by the module itself: the change of S or P, or a fresh address. */
+static void finder_by_module(void)
+{
+    uint8_t record[64];
+    uint64_t from[65];
+    int inside[65], i, last = 0;
+    uint64_t begin = 0;
+
+    fresh(0xFE, 1);
+    put(CON3, 0x60);
+    for (i = 0; i < 64; i++) {
+        record[i] = (uint8_t)below(4);
+        put(FLAG, 0);
+        items(record[i] == 0 ? "0" : record[i] == 1 ? "1" : record[i] == 2 ? "2" : "3");
+        if (reg(FLAG) && (reg(STAT) & S))
+            begin = (uint64_t)i;
+        inside[i] = (reg(STAT) & S) != 0 || last;
+        last = (reg(STAT) & S) != 0;
+        from[i] = begin;
+        if (now().phase == DOOR_ADDRESS && now().bits == 7)
+            return;
+    }
+    inside[64] = 0;
+    for (i = 0; i < 64; i++) {
+        int end = i + 1;
+
+        while (inside[i] && inside[end] && from[end] == from[i])
+            end++;
+        expect(inside[i] ? found(record, 64, (uint64_t)i, from[i], (uint64_t)end - from[i])
+                         : found(record, 64, (uint64_t)i, (uint64_t)i, 0), "find: as the module sees it");
+    }
+}
+
+/* All checks. */
+int main(void)
+{
+    int i;
+
+    bench_levels();
+    bench_addresses();
+    bench_overflow();
+    bench_pointer();
+    bench_reading();
+    rule_disabling();
+    rule_disabling_later();
+    rule_refused_hold();
+    readings();
+    refusals_single();
+    refusals_run();
+    images(1000000);
+    finder();
+    for (i = 0; i < 2000; i++)
+        finder_by_module();
+    printf("checks %lu failures %lu\n", checks, failures);
+    return failures == 0 ? 0 : 1;
+}

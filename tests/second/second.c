@@ -1,0 +1,838 @@
+/* The second program: the rules of the paper on the MSSP I2C slave and its handler, one small function for each. */
+#include "second.h"
+
+#include <string.h>
+
+/* Register numbers. */
+enum { BUF, STAT, CON1, CON2, CON3, ADD, MSK, FLAG, REGISTERS };
+
+/* Bits of STAT. */
+enum { SMP = 0x80, CKE = 0x40, DA = 0x20, P = 0x10, S = 0x08, RW = 0x04, UA = 0x02, BF = 0x01 };
+
+/* Bits of CON1, and the two modes allowed with SSPEN 1. */
+enum { WCOL = 0x80, SSPOV = 0x40, SSPEN = 0x20, CKP = 0x10, SSPM = 0x0F, SLAVE = 0x06, SLAVE_FLAGGED = 0x0E };
+
+/* Bits of CON2. */
+enum { GCEN = 0x80, ACKSTAT = 0x40, ACKDT = 0x20, MASTER_ONLY = 0x1E, SEN = 0x01 };
+
+/* Bits of CON3. */
+enum { ACKTIM = 0x80, PCIE = 0x40, SCIE = 0x20, BOEN = 0x10, AHEN = 0x02, DHEN = 0x01 };
+
+/* The one bit of the flag register. */
+enum { SSPIF = 0x01 };
+
+/* Wire levels are 2 * SCL + SDA; NONE where no wire is remembered. */
+enum { SDA = 1, SCL = 2, HIGHEST_LEVEL = 3, NONE = 255 };
+
+/* The item of a trace that is a handler call. */
+enum { HANDLER_CALL = 4 };
+
+/* The eight phases. */
+enum { QUIET, ADDRESS, DATA, HELD_BEFORE, SLOT, HELD_SENDING, SENDING, MASTER_ACK, PHASES };
+
+/* Refusals by their numbers. */
+enum {
+    DONE = 0, NO_REGISTER = 1, MASTER_BITS = 2, NO_SUCH_MODE = 3,
+    NO_SUCH_LEVEL = 4, NO_SUCH_WINDOW = 5, NO_STATE = 6, NO_SUCH_ITEM = 7
+};
+
+/* The image's length, and the places in it. */
+enum {
+    AT_PHASE = 8, AT_COUNT = 9, AT_BYTE = 10, AT_YES = 11, AT_WIRE = 12, AT_MARK = 13, AT_GAP = 14,
+    AT_N = 16, AT_POINTER = 18, AT_DUE = 20, AT_REST = 21, IMAGE = 48
+};
+
+/* A state in the open. Parts a phase has no use for are 0. */
+typedef struct {
+    uint8_t reg[REGISTERS];
+    uint8_t phase;
+    uint8_t count;   /* address, data: bits so far; sending: the place */
+    uint8_t byte;    /* address, data: those bits as a number; sending: the byte */
+    uint8_t held;    /* data: held or not */
+    uint8_t refused; /* held before acknowledge: refused or not */
+    uint8_t pulling; /* acknowledge slot: pulling or not */
+    uint8_t wire;
+    uint8_t mark;
+    uint8_t due;
+    uint16_t n;
+    uint16_t pointer;
+} module;
+
+/* ---- Small help for bits and phases ---- */
+
+/* Whether any of these bits of a register is 1. */
+static int any(const module *m, int number, int bits)
+{
+    return (m->reg[number] & bits) != 0;
+}
+
+/* Makes these bits of a register 1. */
+static void set(module *m, int number, int bits)
+{
+    m->reg[number] = (uint8_t)(m->reg[number] | bits);
+}
+
+/* Makes these bits of a register 0. */
+static void clear(module *m, int number, int bits)
+{
+    m->reg[number] = (uint8_t)(m->reg[number] & ~bits);
+}
+
+/* Makes these bits of a register what they are in value, and leaves the others. */
+static void take(module *m, int number, int bits, int value)
+{
+    m->reg[number] = (uint8_t)((m->reg[number] & ~bits) | (value & bits));
+}
+
+/* Goes to a phase with all its parts 0: no bits, not held, not refused, not pulling. */
+static void enter(module *m, int phase)
+{
+    m->phase = (uint8_t)phase;
+    m->count = 0;
+    m->byte = 0;
+    m->held = 0;
+    m->refused = 0;
+    m->pulling = 0;
+}
+
+/* Whether the clock is held: SCL is pulled exactly then. */
+static int clock_held(const module *m)
+{
+    return m->phase == HELD_BEFORE || m->phase == HELD_SENDING || (m->phase == DATA && m->held);
+}
+
+/* Whether SDA is pulled: in a pulling slot and for the 0 bits of a byte being sent. */
+static int sda_pulled(const module *m)
+{
+    if (m->phase == SENDING)
+        return ((m->byte >> (7 - m->count)) & 1) == 0;
+    return m->phase == SLOT && m->pulling;
+}
+
+/* ---- Start and Stop ---- */
+
+/* What two levels in a row are; after a Start, none counts until SCL has been low (the mark). */
+enum { NO_CONDITION, START, STOP };
+
+static int condition(int before, int now, int mark)
+{
+    if (mark || before == NONE || !(before & SCL) || !(now & SCL))
+        return NO_CONDITION;
+    if ((before & SDA) == (now & SDA))
+        return NO_CONDITION;
+    return (now & SDA) ? STOP : START;
+}
+
+/* What Start and Stop have in common; either during sending clears BF. */
+static void end_message(module *m)
+{
+    if (m->phase == SENDING)
+        clear(m, STAT, BF);
+    clear(m, STAT, RW);
+    clear(m, CON3, ACKTIM);
+}
+
+/* Start: an address with no bits follows, marked until SCL is low. */
+static void start_seen(module *m)
+{
+    end_message(m);
+    clear(m, STAT, P | DA);
+    set(m, STAT, S);
+    enter(m, ADDRESS);
+    m->mark = 1;
+    if (any(m, CON3, SCIE) || (m->reg[CON1] & SSPM) == SLAVE_FLAGGED)
+        set(m, FLAG, SSPIF);
+}
+
+/* Stop: quiet follows; D/A stays. */
+static void stop_seen(module *m)
+{
+    end_message(m);
+    clear(m, STAT, S);
+    set(m, STAT, P);
+    enter(m, QUIET);
+    if (any(m, CON3, PCIE) || (m->reg[CON1] & SSPM) == SLAVE_FLAGGED)
+        set(m, FLAG, SSPIF);
+}
+
+/* ---- Hold and release ---- */
+
+/* Hold: CKP = 0; the phase says that SCL is pulled. */
+static void hold(module *m, int phase)
+{
+    enter(m, phase);
+    m->held = phase == DATA;
+    clear(m, CON1, CKP);
+}
+
+/* Release from a hold before acknowledge: pulling unless refused or ACKDT = 1. */
+static void release_before(module *m)
+{
+    int pulling = !m->refused && !any(m, CON2, ACKDT);
+
+    enter(m, SLOT);
+    m->pulling = (uint8_t)pulling;
+}
+
+/* Release from the hold for sending: the byte in BUF goes out from bit 7. */
+static void release_sending(module *m)
+{
+    enter(m, SENDING);
+    m->byte = m->reg[BUF];
+}
+
+/* CKP = 1 was written: whatever hold there is ends. */
+static void release(module *m)
+{
+    if (m->phase == HELD_BEFORE)
+        release_before(m);
+    else if (m->phase == HELD_SENDING)
+        release_sending(m);
+    else if (m->phase == DATA)
+        m->held = 0;
+}
+
+/* ---- Taking bytes ---- */
+
+/* Loads BUF, or overflows where BF = 1; answers whether the byte is refused. */
+static int load(module *m, uint8_t byte)
+{
+    if (any(m, STAT, BF)) {
+        set(m, CON1, SSPOV);
+        return 1;
+    }
+    m->reg[BUF] = byte;
+    set(m, STAT, BF);
+    return any(m, CON1, SSPOV);
+}
+
+/* Intake of an address or data byte at its eighth fall; holding is AHEN for an address, DHEN for data. */
+static void intake(module *m, uint8_t byte, int holding)
+{
+    int refused = load(m, byte);
+
+    if (any(m, CON3, AHEN | DHEN))
+        set(m, CON3, ACKTIM);
+    if (holding) {
+        set(m, FLAG, SSPIF);
+        hold(m, HELD_BEFORE);
+        m->refused = (uint8_t)refused;
+    } else {
+        enter(m, SLOT);
+        m->pulling = (uint8_t)!refused;
+    }
+}
+
+/* Whether an address matches: by ADD under MSK in bits 7..1, or as the general call. */
+static int address_matches(const module *m, uint8_t byte)
+{
+    if (((byte ^ m->reg[ADD]) & m->reg[MSK] & 0xFE) == 0)
+        return 1;
+    return any(m, CON2, GCEN) && byte == 0;
+}
+
+/* Eighth fall of an address. */
+static void address_ended(module *m)
+{
+    uint8_t byte = m->byte;
+
+    if (!address_matches(m, byte)) {
+        enter(m, QUIET);
+        return;
+    }
+    clear(m, STAT, DA);
+    take(m, STAT, RW, (byte & 1) ? RW : 0);
+    intake(m, byte, any(m, CON3, AHEN));
+}
+
+/* Eighth fall of a data byte. */
+static void data_ended(module *m)
+{
+    uint8_t byte = m->byte;
+
+    set(m, STAT, DA);
+    intake(m, byte, any(m, CON3, DHEN));
+}
+
+/* Ninth fall of an address or data byte: the slot's pull ends. */
+static void slot_ended(module *m)
+{
+    if (!m->pulling) {
+        enter(m, QUIET);
+        return;
+    }
+    set(m, FLAG, SSPIF);
+    if (any(m, STAT, RW) && !any(m, STAT, DA))
+        hold(m, HELD_SENDING);
+    else if (any(m, CON2, SEN))
+        hold(m, DATA);
+    else
+        enter(m, DATA);
+}
+
+/* ---- Sending bytes ---- */
+
+/* A fall in sending: the first seven move on, the eighth ends the pull. */
+static void sent_bit_ended(module *m)
+{
+    if (m->count < 7) {
+        m->count++;
+        return;
+    }
+    clear(m, STAT, BF);
+    set(m, STAT, DA);
+    enter(m, MASTER_ACK);
+}
+
+/* Ninth fall of a sent byte: the master's 0 asks for another, its 1 ends the sending. */
+static void master_ack_ended(module *m)
+{
+    set(m, FLAG, SSPIF);
+    if (any(m, CON2, ACKSTAT)) {
+        clear(m, STAT, RW);
+        enter(m, QUIET);
+    } else {
+        hold(m, HELD_SENDING);
+    }
+}
+
+/* ---- From levels to bytes ---- */
+
+/* A rise of SCL reads SDA: as a bit, as the master's acknowledge, or as the ninth rise of a slot. */
+static void rise(module *m, int sda)
+{
+    if (m->phase == ADDRESS || m->phase == DATA) {
+        m->byte = (uint8_t)(m->byte << 1 | sda);
+        m->count++;
+    } else if (m->phase == SLOT) {
+        clear(m, CON3, ACKTIM);
+    } else if (m->phase == MASTER_ACK) {
+        take(m, CON2, ACKSTAT, sda ? ACKSTAT : 0);
+    }
+}
+
+/* A fall of SCL ends the mark, and what its phase has to end. */
+static void fall(module *m)
+{
+    m->mark = 0;
+    if (m->phase == ADDRESS && m->count == 8)
+        address_ended(m);
+    else if (m->phase == DATA && m->count == 8)
+        data_ended(m);
+    else if (m->phase == SLOT)
+        slot_ended(m);
+    else if (m->phase == SENDING)
+        sent_bit_ended(m);
+    else if (m->phase == MASTER_ACK)
+        master_ack_ended(m);
+}
+
+/* The wire: low where the sample is low or the module pulls. */
+static uint8_t wire_of(const module *m, uint8_t level)
+{
+    int wire = level;
+
+    if (clock_held(m))
+        wire &= ~SCL;
+    if (sda_pulled(m))
+        wire &= ~SDA;
+    return (uint8_t)wire;
+}
+
+/* One sample; the first ever, and all while disabled, are only remembered. */
+static void sample(module *m, uint8_t level)
+{
+    uint8_t before = m->wire;
+    uint8_t now = wire_of(m, level);
+    int seen;
+
+    m->wire = now;
+    if (before == NONE || !any(m, CON1, SSPEN))
+        return;
+    if ((before & SCL) != (now & SCL)) {
+        if (now & SCL)
+            rise(m, now & SDA);
+        else
+            fall(m);
+        return;
+    }
+    seen = condition(before, now, m->mark);
+    if (seen == START)
+        start_seen(m);
+    else if (seen == STOP)
+        stop_seen(m);
+}
+
+/* ---- Registers ---- */
+
+/* A read of BUF clears BF; other reads change nothing. */
+static uint8_t read_register(module *m, int number)
+{
+    if (number == BUF)
+        clear(m, STAT, BF);
+    return m->reg[number];
+}
+
+/* A write to BUF takes effect only while the clock is held for sending, else it sets WCOL. */
+static void write_buf(module *m, uint8_t value)
+{
+    if (m->phase == HELD_SENDING) {
+        m->reg[BUF] = value;
+        set(m, STAT, BF);
+    } else {
+        set(m, CON1, WCOL);
+    }
+}
+
+/* SSPEN from 1 to 0; the wire stays remembered. */
+static void disable(module *m)
+{
+    enter(m, QUIET);
+    clear(m, STAT, S | P | DA | RW | BF);
+    clear(m, CON3, ACKTIM);
+    m->mark = 0;
+}
+
+/* A write to CON1: WCOL and SSPOV can only be cleared; it may disable, or with CKP = 1 release. */
+static void write_con1(module *m, uint8_t value)
+{
+    int was_enabled = any(m, CON1, SSPEN);
+
+    clear(m, CON1, (WCOL | SSPOV) & ~value);
+    take(m, CON1, SSPEN | CKP | SSPM, value);
+    if (was_enabled && !any(m, CON1, SSPEN))
+        disable(m);
+    else if (any(m, CON1, CKP))
+        release(m);
+}
+
+/* A write that was not refused. */
+static void write_register(module *m, int number, uint8_t value)
+{
+    switch (number) {
+    case BUF:
+        write_buf(m, value);
+        break;
+    case STAT:
+        take(m, STAT, SMP | CKE, value);
+        break;
+    case CON1:
+        write_con1(m, value);
+        break;
+    case CON2:
+        take(m, CON2, 0xFF & ~ACKSTAT, value);
+        break;
+    case CON3:
+        take(m, CON3, 0xFF & ~ACKTIM, value);
+        break;
+    case FLAG:
+        clear(m, FLAG, SSPIF & ~value);
+        break;
+    default: /* ADD, MSK */
+        m->reg[number] = value;
+        break;
+    }
+}
+
+/* ---- The handler ---- */
+
+/* Moves the pointer on by one place, modulo n. */
+static void pointer_on(module *m)
+{
+    m->pointer = (uint16_t)((m->pointer + 1) % m->n);
+}
+
+/* Sending: after a read address BUF is read first; then the byte at the pointer is loaded. */
+static void handle_sending(module *m, const uint8_t *window, int is_address)
+{
+    if (is_address)
+        (void)read_register(m, BUF);
+    write_register(m, BUF, window[m->pointer]);
+    pointer_on(m);
+}
+
+/* A data byte: the pointer if one is due, else stored at the pointer. */
+static void handle_data(module *m, uint8_t *window)
+{
+    uint8_t byte = read_register(m, BUF);
+
+    if (m->due) {
+        m->pointer = (uint16_t)(byte % m->n);
+        m->due = 0;
+        return;
+    }
+    window[m->pointer] = byte;
+    pointer_on(m);
+}
+
+/* One handler call over the window's n bytes; the case is read off STAT alone. */
+static void handler(module *m, uint8_t *window)
+{
+    int is_address = !any(m, STAT, DA);
+
+    if (!any(m, FLAG, SSPIF))
+        return;
+    write_register(m, FLAG, 0);
+    if (any(m, CON1, CKP))
+        return;
+    if (any(m, STAT, RW)) {
+        handle_sending(m, window, is_address);
+    } else if (is_address) {
+        (void)read_register(m, BUF);
+        m->due = 1;
+    } else {
+        handle_data(m, window);
+    }
+    write_register(m, CON1, (uint8_t)(m->reg[CON1] | CKP));
+}
+
+/* ---- The state image ---- */
+
+/* Whether the registers alone are a state's. */
+static int registers_fit(const module *m)
+{
+    int mode = m->reg[CON1] & SSPM;
+
+    if (any(m, STAT, S) && any(m, STAT, P))
+        return 0;
+    if (any(m, STAT, UA) || any(m, CON3, BOEN) || any(m, CON2, MASTER_ONLY))
+        return 0;
+    if (any(m, FLAG, 0xFF & ~SSPIF))
+        return 0;
+    return !any(m, CON1, SSPEN) || mode == SLAVE || mode == SLAVE_FLAGGED;
+}
+
+/* Takes the phase and its parts from an image; answers whether they are a phase's. */
+static int decode_phase(module *m, const uint8_t *image)
+{
+    uint8_t phase = image[AT_PHASE], count = image[AT_COUNT], byte = image[AT_BYTE], yes = image[AT_YES];
+    int taking = phase == ADDRESS || phase == DATA;
+
+    if (phase >= PHASES || yes > 1)
+        return 0;
+    enter(m, phase);
+    m->count = count;
+    m->byte = byte;
+    if (phase == DATA)
+        m->held = yes;
+    else if (phase == HELD_BEFORE)
+        m->refused = yes;
+    else if (phase == SLOT)
+        m->pulling = yes;
+    else if (yes)
+        return 0;
+    if (taking)
+        return count <= 8 && (byte >> count) == 0 && !(m->held && count > 0);
+    if (phase == SENDING)
+        return count <= 7;
+    return count == 0 && byte == 0;
+}
+
+/* Takes wire, mark, n, pointer and due from an image; answers whether each is in its range. */
+static int decode_rest(module *m, const uint8_t *image)
+{
+    int i;
+
+    m->wire = image[AT_WIRE];
+    m->mark = image[AT_MARK];
+    m->n = (uint16_t)(image[AT_N] | image[AT_N + 1] << 8);
+    m->pointer = (uint16_t)(image[AT_POINTER] | image[AT_POINTER + 1] << 8);
+    m->due = image[AT_DUE];
+    for (i = AT_REST; i < IMAGE; i++)
+        if (image[i] != 0)
+            return 0;
+    if (image[AT_GAP] != 0 || image[AT_GAP + 1] != 0)
+        return 0;
+    if (m->wire > HIGHEST_LEVEL && m->wire != NONE)
+        return 0;
+    return m->mark <= 1 && m->due <= 1 && m->n >= 1 && m->n <= 256 && m->pointer < m->n;
+}
+
+/* Whether registers, phase, wire and mark go together. */
+static int parts_fit(const module *m)
+{
+    int scl_high = m->wire != NONE && (m->wire & SCL) != 0;
+    int taking = m->phase == ADDRESS || m->phase == DATA;
+
+    if (!any(m, CON1, SSPEN) && (m->phase != QUIET || m->mark))
+        return 0;
+    if (m->mark && !(any(m, STAT, S) && scl_high && m->phase == ADDRESS && m->count == 0))
+        return 0;
+    if (taking && m->count == 8 && !scl_high)
+        return 0;
+    return !clock_held(m) || !any(m, CON1, CKP);
+}
+
+/* Opens an image; answers whether it is a state's. */
+static int decode(module *m, const uint8_t *image, size_t length)
+{
+    if (length != IMAGE)
+        return 0;
+    memcpy(m->reg, image, REGISTERS);
+    return decode_phase(m, image) && decode_rest(m, image) && registers_fit(m) && parts_fit(m);
+}
+
+/* Lays a state out as its image. */
+static void encode(const module *m, uint8_t *image)
+{
+    memset(image, 0, IMAGE);
+    memcpy(image, m->reg, REGISTERS);
+    image[AT_PHASE] = m->phase;
+    image[AT_COUNT] = m->count;
+    image[AT_BYTE] = m->byte;
+    image[AT_YES] = (uint8_t)(m->held | m->refused | m->pulling);
+    image[AT_WIRE] = m->wire;
+    image[AT_MARK] = m->mark;
+    image[AT_N] = (uint8_t)(m->n & 0xFF);
+    image[AT_N + 1] = (uint8_t)(m->n >> 8);
+    image[AT_POINTER] = (uint8_t)(m->pointer & 0xFF);
+    image[AT_POINTER + 1] = (uint8_t)(m->pointer >> 8);
+    image[AT_DUE] = m->due;
+}
+
+/* ---- The door ---- */
+
+/* An answer with its three fields. */
+static second_answer answer(int refusal, uint8_t value, uint64_t item)
+{
+    second_answer a;
+
+    a.refusal = (uint32_t)refusal;
+    a.value = value;
+    a.item = item;
+    return a;
+}
+
+/* Whether the window lies inside its buffer and has the setup's length; no sum that could wrap. */
+static int window_fits(const module *m, size_t buffer_length, uint64_t start, uint64_t n)
+{
+    uint64_t length = buffer_length;
+
+    return n == m->n && start <= length && n <= length - start;
+}
+
+/* Setup: the only maker of states. */
+second_answer second_setup(uint8_t *state, size_t state_length, uint8_t add, uint64_t n)
+{
+    module m;
+
+    if (state_length != IMAGE)
+        return answer(NO_STATE, 0, 0);
+    if (n < 1 || n > 256)
+        return answer(NO_SUCH_WINDOW, 0, 0);
+    memset(&m, 0, sizeof m);
+    m.reg[CON1] = SSPEN | CKP | SLAVE;
+    m.reg[CON2] = SEN;
+    m.reg[ADD] = add;
+    m.reg[MSK] = 0xFF;
+    m.wire = NONE;
+    m.n = (uint16_t)n;
+    encode(&m, state);
+    return answer(DONE, 0, 0);
+}
+
+/* A register read. */
+second_answer second_read(uint8_t *state, size_t state_length, uint8_t number)
+{
+    module m;
+    uint8_t value;
+
+    if (!decode(&m, state, state_length))
+        return answer(NO_STATE, 0, 0);
+    if (number >= REGISTERS)
+        return answer(NO_REGISTER, 0, 0);
+    value = read_register(&m, number);
+    encode(&m, state);
+    return answer(DONE, value, 0);
+}
+
+/* Why a write is refused, or DONE. */
+static int write_refusal(uint8_t number, uint8_t value)
+{
+    int mode = value & SSPM;
+
+    if (number >= REGISTERS)
+        return NO_REGISTER;
+    if ((number == CON2 && (value & MASTER_ONLY)) || (number == CON3 && (value & BOEN)))
+        return MASTER_BITS;
+    if (number == CON1 && (value & SSPEN) && mode != SLAVE && mode != SLAVE_FLAGGED)
+        return NO_SUCH_MODE;
+    return DONE;
+}
+
+/* A register write. */
+second_answer second_write(uint8_t *state, size_t state_length, uint8_t number, uint8_t value)
+{
+    module m;
+    int refusal;
+
+    if (!decode(&m, state, state_length))
+        return answer(NO_STATE, 0, 0);
+    refusal = write_refusal(number, value);
+    if (refusal != DONE)
+        return answer(refusal, 0, 0);
+    write_register(&m, number, value);
+    encode(&m, state);
+    return answer(DONE, 0, 0);
+}
+
+/* One sample. */
+second_answer second_sample(uint8_t *state, size_t state_length, uint8_t level)
+{
+    module m;
+
+    if (!decode(&m, state, state_length))
+        return answer(NO_STATE, 0, 0);
+    if (level > HIGHEST_LEVEL)
+        return answer(NO_SUCH_LEVEL, 0, 0);
+    sample(&m, level);
+    encode(&m, state);
+    return answer(DONE, 0, 0);
+}
+
+/* One handler call. */
+second_answer second_call(uint8_t *state, size_t state_length,
+                          uint8_t *buffer, size_t buffer_length, uint64_t start, uint64_t n)
+{
+    module m;
+
+    if (!decode(&m, state, state_length))
+        return answer(NO_STATE, 0, 0);
+    if (!window_fits(&m, buffer_length, start, n))
+        return answer(NO_SUCH_WINDOW, 0, 0);
+    handler(&m, buffer + (size_t)start);
+    encode(&m, state);
+    return answer(DONE, 0, 0);
+}
+
+/* A run over a whole trace: opened once, every item, laid out once. */
+second_answer second_run(uint8_t *state, size_t state_length,
+                         uint8_t *buffer, size_t buffer_length, uint64_t start, uint64_t n,
+                         const uint8_t *trace, size_t trace_length)
+{
+    module m;
+    size_t i;
+
+    if (!decode(&m, state, state_length))
+        return answer(NO_STATE, 0, 0);
+    if (!window_fits(&m, buffer_length, start, n))
+        return answer(NO_SUCH_WINDOW, 0, 0);
+    for (i = 0; i < trace_length; i++)
+        if (trace[i] > HANDLER_CALL)
+            return answer(NO_SUCH_LEVEL, 0, i);
+    for (i = 0; i < trace_length; i++) {
+        if (trace[i] == HANDLER_CALL)
+            handler(&m, buffer + (size_t)start);
+        else
+            sample(&m, trace[i]);
+    }
+    encode(&m, state);
+    return answer(DONE, 0, 0);
+}
+
+/* What the scope draws of a state; changes nothing. */
+second_view second_look(const uint8_t *state, size_t state_length)
+{
+    module m;
+    second_view v;
+
+    memset(&v, 0, sizeof v);
+    if (!decode(&m, state, state_length)) {
+        v.refusal = NO_STATE;
+        return v;
+    }
+    v.buf = m.reg[BUF];
+    v.stat = m.reg[STAT];
+    v.con1 = m.reg[CON1];
+    v.con2 = m.reg[CON2];
+    v.con3 = m.reg[CON3];
+    v.add = m.reg[ADD];
+    v.msk = m.reg[MSK];
+    v.flag = m.reg[FLAG];
+    v.scl_pulled = (uint8_t)clock_held(&m);
+    v.sda_pulled = (uint8_t)sda_pulled(&m);
+    v.phase = m.phase;
+    v.bits = m.count;
+    v.byte = m.byte;
+    v.refused = m.refused;
+    v.wire = m.wire;
+    v.mark = m.mark;
+    v.due = m.due;
+    v.n = m.n;
+    v.pointer = m.pointer;
+    return v;
+}
+
+/* ---- The finder ---- */
+
+/* A part with its four fields. */
+static second_part part(int refusal, uint64_t item, uint64_t start, uint64_t length)
+{
+    second_part p;
+
+    p.refusal = (uint32_t)refusal;
+    p.item = item;
+    p.start = start;
+    p.length = length;
+    return p;
+}
+
+/* The condition at item i of a record, keeping the mark. */
+static int condition_at(const uint8_t *record, size_t i, int *mark)
+{
+    int seen = condition(i == 0 ? (int)NONE : record[i - 1], record[i], *mark);
+
+    *mark = seen == START || (*mark && (record[i] & SCL));
+    return seen;
+}
+
+/* Where the message of an item ends: the number of the first item behind it. */
+static size_t message_end(const uint8_t *record, size_t length, size_t item, int mark)
+{
+    size_t i;
+
+    for (i = item + 1; i < length; i++) {
+        int seen = condition_at(record, i, &mark);
+
+        if (seen == START)
+            return i;
+        if (seen == STOP)
+            return i + 1;
+    }
+    return length;
+}
+
+/* The message an item lies in, in a record without bad levels and long enough for the item. */
+static second_part message_of(const uint8_t *record, size_t length, size_t item)
+{
+    size_t i, from = 0;
+    int inside = 0, mark = 0, seen = NO_CONDITION;
+
+    for (i = 0; i <= item; i++) {
+        if (seen == STOP)
+            inside = 0;
+        seen = condition_at(record, i, &mark);
+        if (seen == START) {
+            inside = 1;
+            from = i;
+        }
+    }
+    if (!inside)
+        return part(DONE, 0, item, 0);
+    if (seen == STOP)
+        return part(DONE, 0, from, item + 1 - from);
+    return part(DONE, 0, from, message_end(record, length, item, mark) - from);
+}
+
+/* The message under the cursor. */
+second_part second_find(const uint8_t *record, size_t record_length, uint64_t item)
+{
+    size_t i;
+
+    for (i = 0; i < record_length; i++)
+        if (record[i] > HIGHEST_LEVEL)
+            return part(NO_SUCH_LEVEL, i, 0, 0);
+    if (item >= record_length)
+        return part(NO_SUCH_ITEM, 0, 0, 0);
+    return message_of(record, record_length, (size_t)item);
+}
