@@ -5,7 +5,8 @@ use lib.Dec.{T, eqb}
 use mathlib.Core.Bool.{Bool, true, _&&_}
 use mathlib.Core.List.{List, [], _∷_}
 use Rattle.finder.specs.Messages.{lineBefore, edgeAt, placeAt, endFrom}
-use Rattle.finder.specs.Find.{firstBad, spanOf, refusalOf, itemOf, startOf, lengthOf}
+use Rattle.items.specs.First.{firstAbove}
+use Rattle.finder.specs.Find.{spanOf, refusalOf, itemOf, startOf, lengthOf}
 
 -- A record, an item, and the answer's four numbers: refusal, bad item, start, length.
 abbrev Case : Type 0
@@ -46,5 +47,5 @@ table =
     ∷ []
 
 pub examples : T (allHold table)
-unfolding lineBefore edgeAt placeAt endFrom firstBad spanOf
+unfolding lineBefore edgeAt placeAt endFrom firstAbove spanOf
 examples = tt

@@ -1,11 +1,12 @@
 -- What the finder answers (01, "The wire record and the message under the cursor", and refusals 4 and 7 of "Calls,
 -- refusals and their order").
 -- Assumes nothing.
-use Prim.Native.Nat.{ℕ, zero, suc, _+_, _-_}
-use mathlib.Core.List.{List, [], _∷_}
-use mathlib.Core.Bool.{Bool, true, false, cond}
+use Prim.Native.Nat.{ℕ, _+_, _-_}
+use mathlib.Core.List.{List}
+use mathlib.Core.Bool.{Bool, true, false}
 use lib.ListN.{length, take, drop}
-use lib.Dec.{leb, ltb}
+use lib.Dec.{ltb}
+use Rattle.items.specs.First.{firstAbove}
 use Rattle.refusals.specs.declared.Refusal.the-variants.{NoItem, PastRecord}
 use Rattle.refusals.specs.Numbers.{numberOf}
 use Rattle.finder.specs.declared.Place.{Place}
@@ -14,10 +15,9 @@ use Rattle.finder.specs.declared.Found.{Found}
 use Rattle.finder.specs.declared.Found.the-variants.{Part, Refused}
 use Rattle.finder.specs.Messages.{placeAt, endAt}
 
--- How many items stand before the first level above 3; the record's length where there is none.
-unfoldable pub firstBad : List ℕ → ℕ
-firstBad [] = zero
-firstBad (level ∷ levels) = cond (leb level 3) (suc (firstBad levels)) zero
+-- The number of the first level above 3; the record's length where there is none.
+abbrev pub firstBad : List ℕ → ℕ
+firstBad levels = firstAbove 3 levels
 
 -- From its Start up to its end; in no message, an empty part at the item itself.
 abbrev pub partFrom : Place → ℕ → ℕ → Found

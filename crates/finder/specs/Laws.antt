@@ -75,21 +75,6 @@ module _ (levels : List ℕ) (item : ℕ) where
     unfolding endFrom
     end-more t = rw (left, t, add-one)
 
--- The first bad item, by what is left of the record.
-module _ (levels : List ℕ) (item : ℕ) where
-  pub bad-none : length levels ≤ item → item + firstBad (drop item levels) ≡ item
-  unfolding firstBad
-  bad-none h = rw (drop-of-length-le levels h) (omega arith)
-
-  module _ (h : item < length levels) where
-    pub bad-here : 3 < levelAt levels item → item + firstBad (drop item levels) ≡ item
-    unfolding firstBad
-    bad-here g = rw (drop-cons levels item 0 h, lt-leb (levelAt levels item) 3 g) (omega arith)
-
-    pub bad-more : levelAt levels item ≤ 3 → item + firstBad (drop item levels) ≡ item + 1 + firstBad (drop (item + 1) levels)
-    unfolding firstBad
-    bad-more g = rw (add-one, drop-cons levels item 0 h, le-leb (levelAt levels item) 3 g) (omega arith)
-
 -- The place in the reading after an item of the record.
 reading-place : (levels : List ℕ) (item : ℕ) {reading : Reading} → reading ≡ readingBefore levels (item + 1)
     → placeAt levels item ≡ reading .place

@@ -5,7 +5,7 @@ ghost use lib.ListN.{length};
 ghost use denote.Ref.{ptr};
 ghost use Rattle.finder.specs.Messages.{isStop, placed, endAt};
 ghost use Rattle.finder.specs.Reader.{unread, readOn, readingBefore};
-ghost use Rattle.finder.specs.Find.{firstBad, messagePart, spanOf, refusalOf, itemOf, startOf, lengthOf, partOf, partPlace};
+ghost use Rattle.finder.specs.Find.{messagePart, spanOf, refusalOf, itemOf, startOf, lengthOf, partOf, partPlace};
 use refusals::Refusal;
 use wire::Edge;
 use wire::Line;
@@ -136,26 +136,12 @@ fn message_part(levels: &[u8], item: usize) -> Found
     }
 }
 
-// The number of items before the first level above 3.
-fn first_bad(levels: &[u8]) -> usize
-    ensures { λ r. ⌜ r ≡ firstBad (now (levels .entry)) ⌝ }
-{
-    let mut item = 0;
-    while item < levels.len() {
-        if levels[item] > 3 {
-            return item;
-        }
-        item += 1;
-    }
-    item
-}
-
 // Start and length of the message that an item lies in, any number taken.
 pub fn span(levels: &[u8], item: u64) -> Found
     ensures { λ r. ⌜ r ≡ spanOf (now (levels .entry)) item ⌝ }
 {
     let at = item as usize;
-    let bad = first_bad(levels);
+    let bad = items::first_above(levels, 3);
     if bad < levels.len() {
         return Found::Refused(Refusal::NoItem, bad as u64);
     }

@@ -32,21 +32,6 @@ module _ (s : State) (bytes : List ℕ) (item : ℕ) where
   pub step-idle : 4 ≤ item → (item ≡ 4 → ⊥) → served s bytes ≡ stepOf s bytes item
   step-idle h n = by-tests false false (le-ltb item 4 h) (ne-eqb item 4 n)
 
--- ---- the first bad item, by what is left of the trace
-module _ (items : List ℕ) (i : ℕ) where
-  pub bad-later :
-      i < length items → getD items i 0 ≤ 4 → i + firstBad (drop i items) ≡ i + 1 + firstBad (drop (i + 1) items)
-  unfolding firstBad
-  bad-later h g = rw (add-one, drop-cons items i 0 h, le-leb (getD items i 0) 4 g) (omega arith)
-
-  pub bad-here : i < length items → 4 < getD items i 0 → i + firstBad (drop i items) ≡ i
-  unfolding firstBad
-  bad-here h g = rw (drop-cons items i 0 h, lt-leb (getD items i 0) 4 g) (omega arith)
-
-  pub bad-nowhere : length items ≤ i → i + firstBad (drop i items) ≡ i
-  unfolding firstBad
-  bad-nowhere h = rw (drop-of-length-le items h) (omega arith)
-
 -- ---- the run, by what is left of the trace
 module _ (items : List ℕ) (i : ℕ) (w : Served) where
   pub run-next :

@@ -1,18 +1,18 @@
 -- A run (01, "Calls, refusals and their order"): a trace of bytes, 0 to 3 a sample, 4 a handler call.
 -- Assumes nothing.
-use Prim.Native.Nat.{ℕ, suc}
-use mathlib.Core.Bool.{Bool, true, false, cond}
+use Prim.Native.Nat.{ℕ}
+use mathlib.Core.Bool.{Bool, true, false}
 use mathlib.Core.List.{List, [], _∷_}
-use lib.Dec.{eqb, leb, ltb}
+use lib.Dec.{eqb, ltb}
+use Rattle.items.specs.First.{firstAbove}
 use Rattle.wire.specs.Wire.{sclOf, sdaOf}
 use Rattle.sampling.specs.Rules.{sampled}
 use Rattle.firmware.specs.declared.State.{State}
 use Rattle.firmware.specs.Handler.{Served, served, stateOf, called}
 
--- The number of the first byte out of range; the length where every byte is an item.
-unfoldable pub firstBad : List ℕ → ℕ
-firstBad [] = 0
-firstBad (item ∷ items) = cond (leb item 4) (suc (firstBad items)) 0
+-- The number of the first byte that is no item; the length where every byte is one.
+abbrev pub firstBad : List ℕ → ℕ
+firstBad items = firstAbove 4 items
 
 -- A sample moves the module; the handler's variables stay.
 abbrev pub sampledBy : State → ℕ → State

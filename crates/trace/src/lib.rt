@@ -3,7 +3,7 @@ ghost use mathlib.Core.Path.{_≡_};
 ghost use Prim.Native.Nat.{_+_, _≤_};
 ghost use lib.ListN.{length};
 ghost use Rattle.firmware.specs.Handler.{served};
-ghost use Rattle.trace.specs.Run.{firstBad, sampledBy, stepOf, runOf};
+ghost use Rattle.trace.specs.Run.{sampledBy, stepOf, runOf};
 ghost use Rattle.trace.specs.Window.{ranIn, outcome, runInOf};
 use firmware::State;
 use refusals::Refusal;
@@ -14,20 +14,6 @@ pub struct Ran {
     pub verdict: Verdict,
     pub item: u64,
     pub state: State,
-}
-
-// The number of the first byte that is no item; the length where there is none.
-pub fn first_bad(items: &[u8]) -> usize
-    ensures { λ r. ⌜ r ≡ firstBad (now (items .entry)) ⌝ }
-{
-    let mut at = 0;
-    while at < items.len() {
-        if items[at] > 4 {
-            return at;
-        }
-        at += 1;
-    }
-    at
 }
 
 // A sample as a number: only the module sees it.
@@ -90,7 +76,7 @@ pub fn run_in(s: State, buffer: &mut [u8], start: u64, n: u64, items: &[u8]) -> 
             state: s,
         };
     }
-    let bad = first_bad(items);
+    let bad = items::first_above(items, 4);
     if bad < items.len() {
         return Ran {
             verdict: Verdict::Refused(Refusal::NoItem),

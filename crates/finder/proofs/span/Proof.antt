@@ -10,14 +10,14 @@ returns-3 : tie.Need-returns-3
 returns-3 c =
     let t = c .before in
     let b = t .before in
-    c .message-part .ensures ∙ span-part _ _ (b .before .first-bad .ensures) (b .if1 .left) (t .if2 .left)
+    c .message-part .ensures ∙ span-part _ _ (b .before .first-above .ensures) (b .if1 .left) (t .if2 .left)
 
 pub span-spec : {M : Type 1} → statement M
 span-spec =
     tie.close
     (tie.spec
     (λ c κs. search needs)
-    (λ c. span-bad _ _ (c .before .first-bad .ensures) (c .if1 .taken))
-    (λ c. span-past _ _ (c .before .before .first-bad .ensures) (c .before .if1 .left) (c .if2 .taken))
+    (λ c. span-bad _ _ (c .before .first-above .ensures) (c .if1 .taken))
+    (λ c. span-past _ _ (c .before .before .first-above .ensures) (c .before .if1 .left) (c .if2 .taken))
     (λ c κs. search needs)
     returns-3)
