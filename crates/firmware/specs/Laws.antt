@@ -12,7 +12,7 @@ use Rattle.refusals.specs.declared.Refusal.the-variants.{NoWindow}
 use Rattle.refusals.specs.declared.Verdict.the-variants.{Done, Refused}
 use Rattle.firmware.specs.declared.State.{State}
 use Rattle.firmware.specs.Handler.{Served, served, acknowledged, addressed, sent, taken, serve, calledIf, called}
-use Rattle.firmware.specs.Window.{windowFits, windowOf, splice, calledIn, outcome, choice, callOf}
+use Rattle.firmware.specs.Window.{windowFits, windowOf, splice, inBuffer, calledIn, outcome, choice, callOf}
 
 -- Either a test holds or it fails.
 by-test {ℓ} : {P : Type ℓ} (t : Bool) → (t ≡ true → P) → (t ≡ false → P) → P
@@ -76,16 +76,17 @@ and-left false b h = h
 pub inside : {f : Bool} (long start n wanted : ℕ) → f ≡ windowFits long start n wanted → f ≡ true → start + n ≤ long
 inside long start n wanted e t = leb-true (start + n) long (and-left (leb (start + n) long) (eqb n wanted) (sym e ∙ t))
 
-module _ (s : State) (buffer : List ℕ) (start n : ℕ) where
-  -- The part that was lent comes back into its place.
-  pub part-back :
-      {r : State} {left : List ℕ} → served r left ≡ called s (windowOf start (start + n - start) buffer)
-      → served r (splice start (start + n - start) left buffer) ≡ calledIn s buffer start n
-  part-back e =
-      let k : start + n - start ≡ n = omega arith in
-      let f = rw k at e in
-      rw (k, ← f)
+-- The part that was lent comes back into its place, whatever worked on it.
+pub part-back :
+    (work : List ℕ → Served) (buffer : List ℕ) (start n : ℕ) {r : State} {left : List ℕ}
+    → served r left ≡ work (windowOf start (start + n - start) buffer)
+    → served r (splice start (start + n - start) left buffer) ≡ inBuffer work buffer start n
+part-back work buffer start n e =
+    let k : start + n - start ≡ n = omega arith in
+    let f = rw k at e in
+    rw (k, ← f)
 
+module _ (s : State) (buffer : List ℕ) (start n : ℕ) where
   pub call-done :
       {f : Bool} → f ≡ windowFits (length buffer) start n (s .handler .n) → f ≡ true
       → {r : State} {left : List ℕ} → served r left ≡ calledIn s buffer start n

@@ -23,10 +23,14 @@ windowOf start n buffer = take n (drop start buffer)
 abbrev pub splice : ℕ → ℕ → List ℕ → List ℕ → List ℕ
 splice start n bytes buffer = take start buffer ++ (bytes ++ drop n (drop start buffer))
 
-abbrev pub calledIn : State → List ℕ → ℕ → ℕ → Served
-calledIn s buffer start n =
-    let done : Served = called s (windowOf start n buffer) in
+-- What works on a window, done to the buffer that the window lies in: the bytes outside it stay.
+abbrev pub inBuffer : (List ℕ → Served) → List ℕ → ℕ → ℕ → Served
+inBuffer work buffer start n =
+    let done : Served = work (windowOf start n buffer) in
     served (done .state) (splice start n (done .bytes) buffer)
+
+abbrev pub calledIn : State → List ℕ → ℕ → ℕ → Served
+calledIn s buffer start n = inBuffer (called s) buffer start n
 
 -- All that a call decides.
 pub record Outcome : Type 0 where

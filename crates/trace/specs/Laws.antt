@@ -14,9 +14,9 @@ use Rattle.refusals.specs.declared.Refusal.the-variants.{NoWindow, NoItem}
 use Rattle.refusals.specs.declared.Verdict.the-variants.{Done, Refused}
 use Rattle.firmware.specs.declared.State.{State}
 use Rattle.firmware.specs.Handler.{Served, served, called}
-use Rattle.firmware.specs.Window.{windowFits, windowOf, splice}
+use Rattle.firmware.specs.Window.{windowFits}
 use Rattle.trace.specs.Run.{firstBad, sampledBy, stepIf, stepOf, runFrom}
-use Rattle.trace.specs.Window.{inBuffer, ranIn, outcome, ranOutcome, choice, runInOf}
+use Rattle.trace.specs.Window.{ranIn, outcome, ranOutcome, choice, runInOf}
 
 -- ---- one item
 module _ (s : State) (bytes : List ℕ) (item : ℕ) where
@@ -45,16 +45,6 @@ module _ (items : List ℕ) (i : ℕ) (w : Served) where
   run-end h = rw (drop-of-length-le items h)
 
 -- ---- the window
--- The part that was lent comes back into its place, whatever worked on it.
-pub part-back :
-    (work : List ℕ → Served) (buffer : List ℕ) (start n : ℕ) {r : State} {left : List ℕ}
-    → served r left ≡ work (windowOf start (start + n - start) buffer)
-    → served r (splice start (start + n - start) left buffer) ≡ inBuffer work buffer start n
-part-back work buffer start n e =
-    let k : start + n - start ≡ n = omega arith in
-    let f = rw k at e in
-    rw (k, ← f)
-
 module _ (s : State) (buffer : List ℕ) (start n : ℕ) (items : List ℕ) {f : Bool} (fits : f ≡ windowFits (length buffer) start n (s .handler .n)) where
   chosen :
       (a b : Bool) → f ≡ a → ltb (firstBad items) (length items) ≡ b

@@ -9,15 +9,9 @@ use Rattle.refusals.specs.declared.Refusal.the-variants.{NoWindow, NoItem}
 use Rattle.refusals.specs.declared.Verdict.{Verdict}
 use Rattle.refusals.specs.declared.Verdict.the-variants.{Done, Refused}
 use Rattle.firmware.specs.declared.State.{State}
-use Rattle.firmware.specs.Handler.{Served, served}
-use Rattle.firmware.specs.Window.{windowFits, windowOf, splice}
+use Rattle.firmware.specs.Handler.{Served}
+use Rattle.firmware.specs.Window.{windowFits, inBuffer}
 use Rattle.trace.specs.Run.{firstBad, runOf}
-
--- What works on a window, done to the buffer that the window lies in: the bytes outside it stay.
-abbrev pub inBuffer : (List ℕ → Served) → List ℕ → ℕ → ℕ → Served
-inBuffer work buffer start n =
-    let done : Served = work (windowOf start n buffer) in
-    served (done .state) (splice start n (done .bytes) buffer)
 
 abbrev pub ranIn : State → List ℕ → ℕ → ℕ → List ℕ → Served
 ranIn s buffer start n items = inBuffer (λ bytes. runOf s bytes items) buffer start n

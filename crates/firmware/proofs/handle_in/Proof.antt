@@ -2,6 +2,7 @@
 -- Assumes nothing.
 use borrow.Author.Needs.{needs}
 use denote.Ref.{now}
+use Rattle.firmware.specs.Handler.{called}
 use Rattle.firmware.specs.Laws.{part-back}
 use Rattle.firmware.proofs.handle_in.Statement.{statement}
 use Rattle.firmware.proofs.handle_in.Tie as tie
@@ -16,4 +17,4 @@ handle-in-spec =
     (λ c. search needs)
     (λ c κs. search needs)
     (λ c. search needs)
-    (λ c. part-back (c .before .before .before .before .before .args .s) (now (c .before .before .before .before .before .args .buffer)) (c .before .before .before .before .before .args .start) (c .before .before .before .before .before .args .n) (c .before .before .handle .ensures)))
+    (λ c. part-back (called (c .before .before .before .before .before .args .s)) (now (c .before .before .before .before .before .args .buffer)) (c .before .before .before .before .before .args .start) (c .before .before .before .before .before .args .n) (c .before .before .handle .ensures)))

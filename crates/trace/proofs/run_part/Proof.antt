@@ -3,7 +3,7 @@
 use borrow.Author.Needs.{needs}
 use denote.Ref.{now}
 use Rattle.trace.specs.Run.{runOf}
-use Rattle.trace.specs.Laws.{part-back}
+use Rattle.firmware.specs.Laws.{part-back}
 use Rattle.trace.proofs.run_part.Statement.{statement}
 use Rattle.trace.proofs.run_part.Tie as tie
 
