@@ -157,6 +157,19 @@ released-same ackdt buf HeldForSending = (refl, refl, refl)
 released-same ackdt buf (Sending byte place) = (refl, refl, refl)
 released-same ackdt buf MasterAcknowledge = (refl, refl, refl)
 
+pub released-kept : (m : Module) → Valid m → Valid (released m)
+released-kept m v =
+    let r = released-same (m .config .ackdt) (m .live .buf) (m .phase) in
+    record {
+      parts = released-parts (m .config .ackdt) (m .live .buf) (m .phase) (v .parts);
+      condition = v .condition;
+      mode = v .mode;
+      off = rw (r .0) (v .off);
+      mark = rw (r .1) (v .mark);
+      eight = rw (r .2) (v .eight);
+      hold = released-free (m .config .ackdt) (m .live .buf) (m .phase);
+    }
+
 -- Where SSPEN does not go from 1 to 0, an off module was off, quiet and unmarked before.
 off-stays : (was on quiet : Bool) → was && not on ≡ false → T (was || quiet) → T (on || quiet)
 off-stays was true quiet e h = tt

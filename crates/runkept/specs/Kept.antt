@@ -2,7 +2,7 @@
 -- Assumes nothing.
 use Prim.Native.Nat.{ℕ, _+_, _<_, _≤_}
 use mathlib.Core.Path.{_≡_, refl}
-use mathlib.Core.Bool.{Bool, true, false, true≢false, cond, _&&_, _||_, not}
+use mathlib.Core.Bool.{Bool, true, false, true≢false, cond, _||_}
 use mathlib.Core.List.{List, [], _∷_}
 use native.Mathlib.Omega.{arith}
 use lib.Dec.{eqb, ltb}
@@ -15,7 +15,7 @@ use Rattle.mssp.specs.Module.{setup}
 use Rattle.mssp.specs.Effects.{emptied, loaded, released}
 use Rattle.mssp.specs.Valid.{Valid}
 use Rattle.registers.specs.declared.Register.the-variants.{Buf}
-use Rattle.kept.specs.Kept.{setup-valid, sample-kept, read-kept, write-kept, con1-kept}
+use Rattle.kept.specs.Kept.{setup-valid, sample-kept, read-kept, write-kept, released-kept}
 use Rattle.memory.specs.Memory.{Memory, peeked, put}
 use Rattle.memory.specs.Laws.{positive, modulo-below}
 use Rattle.firmware.specs.declared.Handler.{Handler}
@@ -37,23 +37,6 @@ pub record ValidState (s : State) : Type 0 where
   pub handler : ValidHandler (s .handler)
 
 -- ---- the module
-and-not : (on : Bool) → on && not true ≡ false
-and-not true = refl
-and-not false = refl
-
--- A release is what a write of CKP 1 to CON1 does, but that it leaves mode and SSPEN: so it keeps what 36 (hex, SSPEN 1)
--- keeps, or 10 (SSPEN 0).
-released-if : (on : Bool) (m : Module) → m .config .sspen ≡ on → Valid m → Valid (released m)
-released-if true m e v =
-    let w = con1-kept false true 54 m (and-not (m .config .sspen)) refl tt v in
-    record { parts = w .parts; condition = v .condition; mode = v .mode; off = rw e tt; mark = w .mark; eight = w .eight; hold = w .hold }
-released-if false m e v =
-    let w = con1-kept false true 16 m (rw e) refl tt v in
-    record { parts = w .parts; condition = v .condition; mode = v .mode; off = rw e (w .off); mark = w .mark; eight = w .eight; hold = w .hold }
-
-pub released-kept : (m : Module) → Valid m → Valid (released m)
-released-kept m v = released-if (m .config .sspen) m refl v
-
 emptied-kept : (m : Module) → Valid m → Valid (emptied m)
 emptied-kept m v = read-kept Buf m v
 
