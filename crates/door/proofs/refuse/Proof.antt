@@ -1,0 +1,13 @@
+-- `door::refuse` meets its contract.
+-- Assumes nothing.
+use borrow.Author.Needs.{needs}
+use Rattle.door.proofs.refuse.Statement.{statement}
+use Rattle.door.proofs.refuse.Tie as tie
+
+pub refuse-spec : {M : Type 1} → statement M
+refuse-spec =
+    tie.close
+    (tie.spec
+    (λ c κs. search needs)
+    (λ c. search needs)
+    (λ c. simp (c .number .ensures)))

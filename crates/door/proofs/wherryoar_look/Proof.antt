@@ -1,0 +1,18 @@
+-- `door::wherryoar_look` meets its contract.
+-- Assumes nothing.
+use borrow.Author.Needs.{needs}
+use Rattle.door.specs.Laws.{no-image, of-state}
+use Rattle.door.proofs.wherryoar_look.Statement.{statement}
+use Rattle.door.proofs.wherryoar_look.Tie as tie
+
+pub wherryoar-look-spec : {M : Type 1} → statement M
+wherryoar-look-spec =
+    tie.close
+    (tie.spec
+    (λ c κs. search needs)
+    (λ c. search needs)
+    (λ c κs. search needs)
+    (λ c. search needs)
+    (λ c κs. search needs)
+    (λ c. no-image _ (c .before .before .before .decode .ensures) _ _ (c .before .enum-told .given .1) (c .no-view .ensures))
+    (λ c. of-state _ (c .before .before .before .before .decode .ensures) _ _ (c .before .before .s .given .1) (c .draw .ensures)))

@@ -1,0 +1,22 @@
+-- `door::wherryoar_setup` meets its contract.
+-- Assumes nothing.
+use borrow.Author.Needs.{needs}
+use denote.Ref.{now}
+use Rattle.door.specs.Laws.{setup-length, setup-refused, setup-ready}
+use Rattle.door.proofs.wherryoar_setup.Statement.{statement}
+use Rattle.door.proofs.wherryoar_setup.Tie as tie
+
+pub wherryoar-setup-spec : {M : Type 1} → statement M
+wherryoar-setup-spec =
+    tie.close
+    (tie.spec
+    (λ c κs. search needs)
+    (λ c. let a = c .before .before .before .args in setup-length (now (a .state)) (a .add) (a .n) (c .before .if1 .taken) (c .refuse .ensures))
+    (λ c κs. search needs)
+    (λ c. search needs)
+    (λ c κs. c .before .before .before .before .before .if1 .left)
+    (λ c. search needs)
+    (λ c κs. search needs)
+    (λ c. search needs)
+    (λ c. let a = c .before .before .before .before .before .before .before .before .before .before .args in setup-ready (now (a .state)) (a .add) (a .n) (c .before .before .before .before .before .before .before .before .if1 .left) (c .before .before .before .before .before .before .before .set-up .ensures) (c .before .before .before .before .before .s .given .1) (c .before .before .settle .ensures))
+    (λ c. let a = c .before .before .before .before .before .before .before .args in setup-refused (now (a .state)) (a .add) (a .n) (c .before .before .before .before .before .if1 .left) (c .before .before .before .before .set-up .ensures) (c .before .before .why .given .1) (c .refuse2 .ensures)))

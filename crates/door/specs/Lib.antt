@@ -1,0 +1,5 @@
+pub mod Outcome
+pub mod Door
+pub mod View
+pub mod Laws
+pub mod Theorems

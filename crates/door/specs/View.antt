@@ -1,0 +1,90 @@
+-- What the scope draws of a state: the registers read without effect, what the module pulls, its phase with its parts, the
+-- line, and the handler's variables.
+-- Assumes nothing.
+use Prim.Native.Nat.{ℕ}
+use mathlib.Core.Bool.{Bool, false}
+use mathlib.Core.List.{List}
+use mir.Val.{boolByte}
+use Rattle.refusals.specs.declared.Refusal.the-variants.{NoState}
+use Rattle.refusals.specs.Numbers.{numberOf}
+use Rattle.mssp.specs.declared.Config.{Config}
+use Rattle.mssp.specs.declared.Live.{Live}
+use Rattle.mssp.specs.declared.Phase.{Phase}
+use Rattle.mssp.specs.declared.Phase.the-variants.{Quiet, Address, Data, HeldBefore, Slot, HeldForSending, Sending, MasterAcknowledge}
+use Rattle.mssp.specs.declared.Module.{Module}
+use Rattle.mssp.specs.Drivers.{sclPulled, sdaPulled}
+use Rattle.registers.specs.declared.Register.the-variants.{Buf, Stat, Con1, Con2, Con3, Add, Msk, Flag}
+use Rattle.registers.specs.Values.{valueOf}
+use Rattle.firmware.specs.declared.State.{State}
+use Rattle.module_image.specs.ModulePart.{phaseNumber, phaseCount, phaseByte, wireByte}
+use Rattle.image.specs.Image.{decodeOf}
+use Rattle.door.specs.declared.View.{View}
+use Rattle.door.specs.Outcome.{byState}
+
+-- Only a hold before acknowledge is refused or not.
+abbrev pub refusedOf : Phase → Bool
+refusedOf Quiet = false
+refusedOf (Address bits) = false
+refusedOf (Data bits held) = false
+refusedOf (HeldBefore refused) = refused
+refusedOf (Slot pulling) = false
+refusedOf HeldForSending = false
+refusedOf (Sending byte place) = false
+refusedOf MasterAcknowledge = false
+
+abbrev pub viewOf : State → View
+viewOf s =
+    let m : Module = s .mssp in
+    let c : Config = m .config in
+    let l : Live = m .live in
+    record {
+      refusal = 0;
+      buf = valueOf c l Buf;
+      stat = valueOf c l Stat;
+      con1 = valueOf c l Con1;
+      con2 = valueOf c l Con2;
+      con3 = valueOf c l Con3;
+      add = valueOf c l Add;
+      msk = valueOf c l Msk;
+      flag = valueOf c l Flag;
+      «scl_pulled» = boolByte (sclPulled (m .phase));
+      «sda_pulled» = boolByte (sdaPulled (m .phase));
+      phase = phaseNumber (m .phase);
+      bits = phaseCount (m .phase);
+      byte = phaseByte (m .phase);
+      refused = boolByte (refusedOf (m .phase));
+      wire = wireByte (m .line .remembered);
+      mark = boolByte (m .line .mark);
+      due = boolByte (s .handler .due);
+      n = s .handler .n;
+      pointer = s .handler .pointer;
+    }
+
+-- Bytes that are no state's image: the refusal's number, and nothing to see.
+abbrev pub noView : View
+noView =
+    record {
+      refusal = numberOf NoState;
+      buf = 0;
+      stat = 0;
+      con1 = 0;
+      con2 = 0;
+      con3 = 0;
+      add = 0;
+      msk = 0;
+      flag = 0;
+      «scl_pulled» = 0;
+      «sda_pulled» = 0;
+      phase = 0;
+      bits = 0;
+      byte = 0;
+      refused = 0;
+      wire = 0;
+      mark = 0;
+      due = 0;
+      n = 0;
+      pointer = 0;
+    }
+
+abbrev pub doorLook : List ℕ → View
+doorLook bytes = byState (decodeOf bytes) noView viewOf

@@ -1,0 +1,192 @@
+-- An accepted call through the door leaves a state's image, and a refused one the image that was there: a host that keeps to
+-- the door never loses its state.
+-- Assumes nothing.
+use Prim.Native.Nat.{ℕ, zero, suc, _<_}
+use mathlib.Core.Path.{_≡_, refl}
+use mathlib.Core.Bool.{Bool, true, false, _&&_}
+use mathlib.Core.List.{List}
+use native.Mathlib.Omega.{arith}
+use mir.Facts.{and-yes}
+use lib.Dec.{T, eqb, leb, ltb, leb→le, ltb→lt, le→leb, lt→ltb}
+use lib.ListN.{length}
+use Rattle.refusals.specs.declared.Refusal.{Refusal}
+use Rattle.refusals.specs.declared.Refusal.the-variants.{NoState, NoRegister, ReservedBit, NoMode, NoWindow, NoItem, PastRecord}
+use Rattle.refusals.specs.declared.Verdict.{Verdict}
+use Rattle.refusals.specs.declared.Verdict.the-variants.{Done, Refused}
+use Rattle.refusals.specs.Numbers.{numberOf}
+use Rattle.wire.specs.Wire.{sclOf, sdaOf}
+use Rattle.mssp.specs.declared.Module.{Module}
+use Rattle.mssp.specs.Valid.{valid, clauses, test, Valid as ValidModule}
+use Rattle.registers.specs.declared.Access.{Access}
+use Rattle.registers.specs.Values.{readOf}
+use Rattle.registers.specs.Writes.{writeOf}
+use Rattle.kept.specs.Kept.{sample-kept, access-read-kept, access-write-kept}
+use Rattle.firmware.specs.declared.Handler.{Handler}
+use Rattle.firmware.specs.declared.State.{State}
+use Rattle.firmware.specs.declared.Made.{Made}
+use Rattle.firmware.specs.declared.Made.the-variants.{Ready, Refused as NotMade}
+use Rattle.firmware.specs.Handler.{stateOf, setupOf}
+use Rattle.firmware.specs.Window.{windowFits, windowOf, callOf, choice}
+use Rattle.trace.specs.Run.{sampledBy}
+use Rattle.trace.specs.Window.{runInOf}
+use Rattle.runkept.specs.Kept.{ValidHandler, ValidState, setup-kept, called-kept, run-in-kept}
+use Rattle.image.specs.declared.Decoded.the-variants.{Valid}
+use Rattle.image.specs.HandlerPart.{handlerValid}
+use Rattle.image.specs.Image.{imageLength, validState, encodeOf, decodeOf}
+use Rattle.image.specs.Theorems.{decode-encode, decode-valid}
+use Rattle.door.specs.Outcome.{Outcome, lent, settled, noState, byState}
+use Rattle.door.specs.Door.{setupIf, doorSetup, accessed, doorRead, doorWrite, levelVerdict, doorSample, called, doorCall, ran, doorRun}
+use Rattle.door.specs.Theorems.{Keeps, by-state, read-keeps, write-keeps, sample-keeps, call-keeps, run-keeps}
+
+-- Bytes that are the image of a state.
+pub record Image (bytes : List ℕ) : Type 0 where
+  pub of : State
+  pub decodes : decodeOf bytes ≡ Valid of
+
+-- ---- a state by its clauses, and by the test that decoding makes
+handler-clauses : (h : Handler) → T (handlerValid h) → ValidHandler h
+handler-clauses h t =
+    let both = and-yes (leb 1 (h .n) && leb (h .n) 256) (ltb (h .pointer) (h .n)) t in
+    let range = and-yes (leb 1 (h .n)) (leb (h .n) 256) (both .0) in
+    record {
+      some = leb→le 1 (h .n) (range .0);
+      most = leb→le (h .n) 256 (range .1);
+      inside = ltb→lt (h .pointer) (h .n) (both .1);
+    }
+
+and-both : (a b : Bool) → T a → T b → T (a && b)
+and-both true b s t = t
+and-both false b s t = s
+
+state-clauses : (s : State) → T (validState s) → ValidState s
+state-clauses s t =
+    let both = and-yes (valid (s .mssp)) (handlerValid (s .handler)) t in
+    record { mssp = clauses (s .mssp) (both .0); handler = handler-clauses (s .handler) (both .1) }
+
+state-test : (s : State) → ValidState s → T (validState s)
+state-test s v =
+    let h = s .handler in
+    and-both (valid (s .mssp)) (handlerValid h) (test (s .mssp) (v .mssp))
+    (and-both (leb 1 (h .n) && leb (h .n) 256) (ltb (h .pointer) (h .n))
+    (and-both (leb 1 (h .n)) (leb (h .n) 256) (le→leb 1 (h .n) (v .handler .some)) (le→leb (h .n) 256 (v .handler .most)))
+    (lt→ltb (h .pointer) (h .n) (v .handler .inside)))
+
+image-of : (s : State) → ValidState s → Image (encodeOf s)
+image-of s v = record { of = s; decodes = decode-encode s (state-test s v) }
+
+-- ---- an accepted call leaves an image
+abbrev pub Leaves : Outcome → Type 0
+Leaves o = o .answer .refusal ≡ 0 → Image (o .state)
+
+-- No cause has the number 0.
+some-number : (why : Refusal) → numberOf why ≡ 0 → ⊥
+some-number NoState e = omega arith
+some-number NoRegister e = omega arith
+some-number ReservedBit e = omega arith
+some-number NoMode e = omega arith
+some-number NoWindow e = omega arith
+some-number NoItem e = omega arith
+some-number PastRecord e = omega arith
+
+none-leaves : (bytes : List ℕ) → Leaves (noState bytes)
+none-leaves bytes e = absurd (some-number NoState e)
+
+settled-leaves :
+    (v : Verdict) (item : ℕ) (next : State) (bytes : List ℕ) → ValidState next → Leaves (settled v item next bytes)
+settled-leaves (Done value) item next bytes good e = image-of next good
+settled-leaves (Refused why) item next bytes good e = absurd (some-number why e)
+
+setup-if :
+    (fits : Bool) (made : Made) (bytes : List ℕ) → ((s : State) → made ≡ Ready s → ValidState s)
+    → Leaves (setupIf fits made bytes)
+setup-if false made bytes good e = none-leaves bytes e
+setup-if true (NotMade why) bytes good e = absurd (some-number why e)
+setup-if true (Ready s) bytes good e = image-of s (good s refl)
+
+call-if :
+    (s : State) (buffer : List ℕ) (start n : ℕ) (fits : Bool) → ValidState s
+    → ValidState (choice s buffer start n fits .state)
+call-if s buffer start n true v = called-kept s (windowOf start n buffer) v
+call-if s buffer start n false v = v
+
+pub setup-leaves : (bytes : List ℕ) (add n : ℕ) → Leaves (doorSetup bytes add n)
+setup-leaves bytes add n = setup-if (eqb (length bytes) imageLength) (setupOf add n) bytes (λ s e. setup-kept add n e)
+
+module _ (bytes : List ℕ) where
+  -- The bytes decode to the state that is worked on, so it is valid.
+  given : (s : State) → decodeOf bytes ≡ Valid s → ValidState s
+  given s e = state-clauses s (decode-valid bytes s e)
+
+  access-leaves :
+      (work : Module → Access) → ((m : Module) → ValidModule m → ValidModule (work m .mssp))
+      → Leaves (byState (decodeOf bytes) (noState bytes) (accessed work bytes))
+  access-leaves work keeps =
+      by-state Leaves (decodeOf bytes) (noState bytes) (accessed work bytes) (none-leaves bytes)
+      (λ s e.
+      let v = given s e in
+      settled-leaves (work (s .mssp) .verdict) 0 (stateOf (work (s .mssp) .mssp) (s .handler)) bytes
+      (record { mssp = keeps (s .mssp) (v .mssp); handler = v .handler }))
+
+  pub read-leaves : (number : ℕ) → Leaves (doorRead bytes number)
+  read-leaves number = access-leaves (λ m. readOf m number) (λ m v. access-read-kept m number v)
+
+  pub write-leaves : (number value : ℕ) → Leaves (doorWrite bytes number value)
+  write-leaves number value = access-leaves (λ m. writeOf m number value) (λ m v. access-write-kept m number value v)
+
+  pub sample-leaves : (level : ℕ) → Leaves (doorSample bytes level)
+  sample-leaves level =
+      by-state Leaves (decodeOf bytes) (noState bytes) (λ s. settled (levelVerdict level) 0 (sampledBy s level) bytes)
+      (none-leaves bytes)
+      (λ s e.
+      let v = given s e in
+      settled-leaves (levelVerdict level) 0 (sampledBy s level) bytes
+      (record { mssp = sample-kept (s .mssp) (sclOf level) (sdaOf level) (v .mssp); handler = v .handler }))
+
+  module _ (buffer : List ℕ) (start n : ℕ) where
+    pub call-leaves : Leaves (doorCall bytes buffer start n .outcome)
+    call-leaves =
+        by-state (λ o. Leaves (o .outcome)) (decodeOf bytes) (lent (noState bytes) buffer)
+        (λ s. called bytes (callOf s buffer start n)) (none-leaves bytes)
+        (λ s e.
+        let o = callOf s buffer start n in
+        settled-leaves (o .verdict) 0 (o .state) bytes
+        (call-if s buffer start n (windowFits (length buffer) start n (s .handler .n)) (given s e)))
+
+    pub run-leaves : (items : List ℕ) → Leaves (doorRun bytes buffer start n items .outcome)
+    run-leaves items =
+        by-state (λ o. Leaves (o .outcome)) (decodeOf bytes) (lent (noState bytes) buffer)
+        (λ s. ran bytes (runInOf s buffer start n items)) (none-leaves bytes)
+        (λ s e.
+        let o = runInOf s buffer start n items in
+        settled-leaves (o .verdict) (o .item) (o .state) bytes (run-in-kept s buffer start n items (given s e)))
+
+-- ---- an image stays an image, whatever is called
+stays-if :
+    (refusal : ℕ) {bytes left : List ℕ} → (0 < refusal → left ≡ bytes) → (refusal ≡ 0 → Image left) → Image bytes → Image left
+stays-if zero keeps leaves image = leaves refl
+stays-if (suc refusal) keeps leaves image = rw (keeps (omega arith)) image
+
+stays : {bytes : List ℕ} (o : Outcome) → Keeps bytes o → Leaves o → Image bytes → Image (o .state)
+stays o keeps leaves image = stays-if (o .answer .refusal) keeps leaves image
+
+module _ (bytes : List ℕ) (image : Image bytes) where
+  pub read-stays : (number : ℕ) → Image (doorRead bytes number .state)
+  read-stays number = stays (doorRead bytes number) (read-keeps bytes number) (read-leaves bytes number) image
+
+  pub write-stays : (number value : ℕ) → Image (doorWrite bytes number value .state)
+  write-stays number value =
+      stays (doorWrite bytes number value) (write-keeps bytes number value) (write-leaves bytes number value) image
+
+  pub sample-stays : (level : ℕ) → Image (doorSample bytes level .state)
+  sample-stays level = stays (doorSample bytes level) (sample-keeps bytes level) (sample-leaves bytes level) image
+
+  module _ (buffer : List ℕ) (start n : ℕ) where
+    pub call-stays : Image (doorCall bytes buffer start n .outcome .state)
+    call-stays =
+        stays (doorCall bytes buffer start n .outcome) (λ h. call-keeps bytes buffer start n h .0)
+        (call-leaves bytes buffer start n) image
+
+    pub run-stays : (items : List ℕ) → Image (doorRun bytes buffer start n items .outcome .state)
+    run-stays items =
+        stays (doorRun bytes buffer start n items .outcome) (λ h. run-keeps bytes buffer start n items h .0)
+        (run-leaves bytes buffer start n items) image
