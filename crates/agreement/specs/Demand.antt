@@ -3,11 +3,12 @@
 -- Assumes nothing.
 use Prim.Native.Nat.{ℕ, _+_, _%_, _<_, _≤_, pred}
 use mathlib.Core.Path.{_≡_, refl, sym}
-use mathlib.Core.Bool.{Bool, true, false, true≢false, cond}
+use mathlib.Core.Bool.{Bool, true, false, cond}
 use mathlib.Core.List.{List}
 use native.Mathlib.Omega.{arith}
 use lib.ListN.{length}
 use borrow.Author.Tests.{ne-eqb, le-ltb}
+use Rattle.truth.specs.Tests.{never}
 use Rattle.wire.specs.Wire.{sclHigh}
 use Rattle.mssp.specs.Drivers.{sclPulled, sdaPulled}
 use Rattle.memory.specs.Memory.{Memory, memoryOf}
@@ -22,9 +23,6 @@ use Rattle.agreement.specs.Simulation.{Rel, resting, foreign, refused, p
 -- While SCL is high the bit just taken is the one on the wire.
 just-taken : (count : ℕ) → count < 8 → pred (count % 8 + 1) ≡ count
 just-taken count h = omega arith
-
-never {ℓ} : {P : Type ℓ} → false ≡ true → P
-never h = absurd (true≢false (sym h))
 
 shows :
     {n add : ℕ} {st : State} {m : List ℕ} {r : Reader} {dd : Plain} {o : Memory} {q : Bool}

@@ -11,6 +11,7 @@ use native.Mathlib.Omega.{arith}
 use lib.Dec.{eqb, ltb, eqb·suc-suc, lit<}
 use lib.ListN.{length}
 use borrow.Author.Tests.{ltb-true, ltb-false, eq-eqb, ne-eqb}
+use Rattle.truth.specs.Tests.{by-test, or-false}
 use Rattle.wire.specs.declared.Bits.{Bits}
 use Rattle.wire.specs.declared.Line.{Line}
 use Rattle.wire.specs.declared.Remembered.{Remembered}
@@ -164,16 +165,7 @@ after n add e scl sda st m r d o q =
     (beforeAfter (heardAt (r .place) e) (d .memory) o)
     (ninthAfter (heardAt (r .place) e) q)
 
--- Either a test holds or it fails.
-by-test : {P : Type 0} (t : Bool) → (t ≡ true → P) → (t ≡ false → P) → P
-by-test true f g = f refl
-by-test false f g = g refl
-
 -- With MSK FF and no general call an address matches where bits 7 to 1 are ADD's.
-or-false : (a : Bool) → a || false ≡ a
-or-false true = refl
-or-false false = refl
-
 pub matches-own : (add byte : ℕ) → matching add 255 false byte ≡ own add byte
 matches-own add byte = or-false (own add byte)
 

@@ -9,6 +9,7 @@ use native.Mathlib.Omega.{arith}
 use mir.Facts.{and-yes}
 use lib.Dec.{T, eqb, leb, ltb, leb→le, ltb→lt, le→leb, lt→ltb}
 use lib.ListN.{length}
+use Rattle.truth.specs.Tests.{and-both}
 use Rattle.refusals.specs.declared.Refusal.{Refusal}
 use Rattle.refusals.specs.declared.Refusal.the-variants.{NoState, NoRegister, ReservedBit, NoMode, NoWindow, NoItem, PastRecord}
 use Rattle.refusals.specs.declared.Verdict.{Verdict}
@@ -53,10 +54,6 @@ handler-clauses h t =
       most = leb→le (h .n) 256 (range .1);
       inside = ltb→lt (h .pointer) (h .n) (both .1);
     }
-
-and-both : (a b : Bool) → T a → T b → T (a && b)
-and-both true b s t = t
-and-both false b s t = s
 
 state-clauses : (s : State) → T (validState s) → ValidState s
 state-clauses s t =

@@ -8,16 +8,12 @@ use native.Mathlib.Omega.{arith}
 use lib.Dec.{eqb, leb}
 use lib.ListN.{length}
 use borrow.Author.Tests.{not-true, not-false, leb-true, leb-false, le-leb, lt-leb}
+use Rattle.truth.specs.Tests.{by-test, and-first}
 use Rattle.refusals.specs.declared.Refusal.the-variants.{NoWindow}
 use Rattle.refusals.specs.declared.Verdict.the-variants.{Done, Refused}
 use Rattle.firmware.specs.declared.State.{State}
 use Rattle.firmware.specs.Handler.{Served, served, acknowledged, addressed, sent, taken, serve, calledIf, called}
 use Rattle.firmware.specs.Window.{windowFits, windowOf, splice, inBuffer, calledIn, outcome, choice, callOf}
-
--- Either a test holds or it fails.
-by-test {ℓ} : {P : Type ℓ} (t : Bool) → (t ≡ true → P) → (t ≡ false → P) → P
-by-test true f g = f refl
-by-test false f g = g refl
 
 module _ (s : State) (bytes : List ℕ) where
   -- A call, by what its two tests are.
@@ -69,12 +65,8 @@ pub fits-so :
     (long start n wanted : ℕ) → start ≤ long → leb n (long - start) && eqb n wanted ≡ windowFits long start n wanted
 fits-so long start n wanted h = rw (fits-shift long start n h)
 
-and-left : (a b : Bool) → a && b ≡ true → a ≡ true
-and-left true b h = refl
-and-left false b h = h
-
 pub inside : {f : Bool} (long start n wanted : ℕ) → f ≡ windowFits long start n wanted → f ≡ true → start + n ≤ long
-inside long start n wanted e t = leb-true (start + n) long (and-left (leb (start + n) long) (eqb n wanted) (sym e ∙ t))
+inside long start n wanted e t = leb-true (start + n) long (and-first (leb (start + n) long) (eqb n wanted) (sym e ∙ t))
 
 -- The part that was lent comes back into its place, whatever worked on it.
 pub part-back :

@@ -9,6 +9,7 @@ use native.Mathlib.Numerals.{add-one}
 use mir.Val.{boolByte}
 use lib.Dec.{T, T-not, not-T, eqb, leb, ltb, leb→le, ltb→lt, le→leb, lt→ltb, eqb-refl}
 use borrow.Author.Tests.{ltb-true}
+use Rattle.truth.specs.Tests.{and-both, and-left, and-right, or-left, or-right, or-false}
 use Rattle.wire.specs.declared.Bits.{Bits}
 use Rattle.wire.specs.declared.Remembered.{Remembered}
 use Rattle.wire.specs.declared.Remembered.the-variants.{Nothing, Wire}
@@ -28,34 +29,9 @@ use Rattle.mssp.specs.Valid.{bitsFit, noBits, partsFit, addressBegins, eightBit
 use Rattle.sampling.specs.declared.Moved.{Moved}
 use Rattle.sampling.specs.Rules.{_at_, intake, addressIf, addressFallIf, dataFallIf, slotEnded, bitSentIf, answered, fallen, risen, edgeStep}
 
--- ---- tests
-pub and-both : (a b : Bool) → T a → T b → T (a && b)
-and-both true b s t = t
-and-both false b s t = s
-
-pub and-left : (a b : Bool) → T (a && b) → T a
-and-left true b t = tt
-and-left false b t = t
-
-pub and-right : (a b : Bool) → T (a && b) → T b
-and-right true b t = t
-and-right false b t = absurd t
-
-pub or-right : (a b : Bool) → T b → T (a || b)
-or-right true b t = tt
-or-right false b t = t
-
-pub or-left : (a b : Bool) → T a → T (a || b)
-or-left true b t = tt
-or-left false b t = absurd t
-
 low : (s b : Bool) → T (s && false && b) → ⊥
 low true b t = t
 low false b t = t
-
-pub or-false : (a : Bool) → T (a || false) → T a
-or-false true t = tt
-or-false false t = t
 
 -- ---- one bit more
 bits-pushed : (b : Bits) (sda : Bool) → T (bitsFit b) → T (not (whole b)) → T (bitsFit (pushed b sda))
@@ -219,7 +195,7 @@ pub rise-short :
     → T (not (isRise (edgeFrom mark seen scl sda)) || not (eightBits ph))
 rise-short mark Nothing scl sda ph h = tt
 rise-short mark (Wire false before) false sda ph h = tt
-rise-short mark (Wire false before) true sda ph h = or-false (not (eightBits ph)) h
+rise-short mark (Wire false before) true sda ph h = rw or-false at h
 rise-short mark (Wire true before) false sda ph h = tt
 rise-short mark (Wire true before) true sda ph h = rw (no-rise mark before sda) tt
 

@@ -4,6 +4,7 @@ use Prim.Native.Nat.{ℕ}
 use mathlib.Core.Path.{_≡_, refl, sym}
 use mathlib.Core.Bool.{Bool, true, false, true≢false, cond, _||_, _&&_, not}
 use lib.Dec.{T}
+use Rattle.truth.specs.Tests.{and-both, and-left, and-right, or-left, or-right}
 use Rattle.wire.specs.declared.Line.{Line}
 use Rattle.wire.specs.declared.Remembered.{Remembered}
 use Rattle.wire.specs.declared.Remembered.the-variants.{Nothing, Wire}
@@ -27,7 +28,7 @@ use Rattle.registers.specs.declared.Register.{Register}
 use Rattle.registers.specs.declared.Register.the-variants.{Buf, Stat, Con1, Con2, Con3, Add, Msk, Flag, Nowhere}
 use Rattle.registers.specs.Values.{registerOf, afterRead, readOf}
 use Rattle.registers.specs.Writes.{con1Config, con1Stored, con1Then, written, verdictOf, writeOf}
-use Rattle.kept.specs.Edges.{and-both, and-left, and-right, or-left, or-right, edge-stepped, rise-short, eight-kept, mark-kept}
+use Rattle.kept.specs.Edges.{edge-stepped, rise-short, eight-kept, mark-kept}
 
 -- ---- set-up
 pub fresh-valid : Valid fresh

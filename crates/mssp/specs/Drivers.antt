@@ -1,8 +1,9 @@
 -- What the module pulls, read off the phase (01, "From levels to bytes": Hold, slot, Sending), and that these are the only pulls.
 -- Assumes nothing.
 use Prim.Native.Nat.{ℕ}
-use mathlib.Core.Path.{_≡_, refl, sym}
-use mathlib.Core.Bool.{Bool, true, false, true≢false}
+use mathlib.Core.Path.{_≡_, refl}
+use mathlib.Core.Bool.{Bool, true, false}
+use Rattle.truth.specs.Tests.{never}
 use Rattle.wire.specs.declared.Bits.{Bits}
 use Rattle.wire.specs.Byte.{zeroAt}
 use Rattle.mssp.specs.declared.Phase.{Phase}
@@ -60,9 +61,6 @@ pub data Holds : Phase → Type 0 where
 pub data Lowers : Phase → Type 0 where
   acknowledges : Lowers (Slot true)
   sends-zero : {byte place : ℕ} → zeroAt byte place ≡ true → Lowers (Sending byte place)
-
-never {ℓ} : {P : Type ℓ} → false ≡ true → P
-never h = absurd (true≢false (sym h))
 
 -- SCL is pulled exactly in the three holds.
 pub scl-holds : (ph : Phase) → sclPulled ph ≡ true → Holds ph

@@ -7,16 +7,9 @@ use mathlib.Core.Bool.{Bool, true, false, _&&_}
 use native.Mathlib.Omega.{arith}
 use native.Mathlib.Nat.{eq-or-lt-of-le, le-of-suc-le-suc}
 use lib.Dec.{T, eqb, eqb→eq}
+use Rattle.truth.specs.Tests.{and-left, and-right}
 use Rattle.wire.specs.Byte.{bit}
 use Rattle.registers.specs.Values.{byteOf}
-
-and-left : (a b : Bool) → T (a && b) → T a
-and-left true b t = tt
-and-left false b t = t
-
-and-right : (a b : Bool) → T (a && b) → T b
-and-right true b t = t
-and-right false b t = absurd t
 
 -- A test that is computed at each number below n, and what it says of one of them.
 abbrev allBelow : (ℕ → Bool) → ℕ → Bool

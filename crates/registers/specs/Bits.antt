@@ -4,6 +4,7 @@ use Prim.Native.Nat.{ℕ, zero, suc}
 use mathlib.Core.Path.{_≡_, refl}
 use mathlib.Core.Bool.{Bool, true, false, not, _&&_}
 use lib.Dec.{T}
+use Rattle.truth.specs.Tests.{and-left, and-right}
 use Rattle.wire.specs.Byte.{bit}
 use Rattle.registers.specs.Values.{byteOf}
 
@@ -19,14 +20,6 @@ passes (suc n) f = passes n (f true) && passes n (f false)
 abbrev Everywhere : (n : ℕ) → Test n → Type 0
 Everywhere zero t = T t
 Everywhere (suc n) f = (b : Bool) → Everywhere n (f b)
-
-and-left : (a b : Bool) → T (a && b) → T a
-and-left true b t = tt
-and-left false b t = t
-
-and-right : (a b : Bool) → T (a && b) → T b
-and-right true b t = t
-and-right false b t = absurd t
 
 either : (P : Bool → Type 0) → P true → P false → (b : Bool) → P b
 either P p q true = p
