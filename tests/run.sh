@@ -8,6 +8,8 @@ failed=0
 out=$(pwd)/target/tests
 mkdir -p "$out"
 strict="-Wall -Wextra -Wpedantic -Werror"
+steps=20000000 mutations=4000000
+[ -z "$RUN" ] || steps=1000000 mutations=1000000 # an emulator is slow
 door="-Iinclude -Itests -Itests/second -DDOOR_PREFIX=wherryoar_ -DDOOR_HEADER=\"wherryoar.h\""
 
 try() { # try NAME COMMAND..
@@ -53,6 +55,58 @@ both() { # both NAME EXTRA-SOURCE ARGUMENTS..
 both replay "" tests/vectors/base.txt
 both agree tests/second/plain.c 400000
 both checks ""
+both refusals ""
+both mangle tests/traffic.c "$mutations"
+
+# The archive and the second program side by side. Then the test of that test: a bit turned over in the archive's answer (1),
+# state (2), buffer (3) or view (4) has to be told, in a few steps that are a case of the stored form.
+build_compare() {
+    $CC_ARCHIVE -std=c99 -O2 $strict -Iinclude -Itests -Itests/second -o "$out/compare" \
+        tests/compare.c tests/round.c tests/pair.c tests/traffic.c tests/second/second.c "$archive"
+}
+spoiled() { # spoiled PLACE
+    $RUN "$out/compare" 100000 1 "$1" >"$out/spoiled_$1.txt" || return 1
+    $RUN "$out/second_replay" "$out/spoiled_$1.txt" && tail -n 1 "$out/spoiled_$1.txt"
+}
+try build_compare build_compare
+try compare $RUN "$out/compare" "$steps"
+for place in 1 2 3 4; do
+    try "spoiled_$place" spoiled "$place"
+done
+
+# What the header says of the archive as a whole: eight functions, nothing called, no memory of its own.
+alone() {
+    local functions others calls variables
+    functions=$($NM -g "$archive" | grep -c ' T wherryoar_')
+    others=$($NM -g "$archive" | grep ' [A-TV-Z] ' | grep -vc ' T wherryoar_')
+    calls=$($NM -u "$archive" | grep -c ' [Uwv] ')
+    variables=$($NM "$archive" | grep -c ' [BbCDdGgSs] ')
+    echo "functions $functions, other names it offers $others, names it calls $calls, variables $variables"
+    [ "$functions $others $calls $variables" = "8 0 0 0" ]
+}
+try alone alone
+
+# Installed in a folder of its own, and from there the host in examples/.
+installed() {
+    local prefix flags status
+    need pkg-config pkg-config || return 1
+    prefix=$(mktemp -d) || return 1
+    tools/install.sh "$prefix" && flags=$(PKG_CONFIG_PATH="$prefix/lib/pkgconfig" pkg-config --cflags --libs wherryoar) &&
+        $CC_ARCHIVE -std=c99 -O2 $strict -o "$out/lanes" examples/lanes.c $flags
+    status=$?
+    rm -rf "$prefix"
+    return $status
+}
+lanes() {
+    $RUN "$out/lanes" examples/lanes.txt >"$out/lanes.out" && diff "$out/lanes.out" examples/lanes.out &&
+        echo "as in examples/lanes.out"
+}
+try installed installed
+try lanes lanes
+
+# What the archive costs.
+try stack tools/stack.sh
+try bench bench/run.sh
 
 echo "$passed passed, $failed failed"
 [ "$failed" -eq 0 ]

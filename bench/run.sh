@@ -1,0 +1,94 @@
+#!/usr/bin/env bash
+# Prints what an item costs in the archive and in the second program: times and instructions, under an emulator only these.
+set -u
+cd "$(dirname "$0")/.." || exit 2
+. tools/machine.sh
+archive=target/staticlib/libdoor.a
+out=$(pwd)/target/bench
+mkdir -p "$out"
+rt staticlib door >/dev/null || exit 1
+$CC_ARCHIVE -std=c99 -O2 -Wall -Wextra -Wpedantic -Werror -Iinclude -Itests/second -o "$out/bench" \
+    bench/bench.c tests/second/second.c "$archive" || exit 1
+
+# Lines 'samples-per-clock items run second-run sample second-sample' as a table, and the budgets they are held to.
+table() { # table WHAT
+    awk -v what="$1" '
+    BEGIN {
+        printf "%s per item\n", what
+        printf "%9s %8s | %13s %10s %5s | %16s %13s %5s | %s\n", "samples", "items", "wherryoar_run", "second_run", "ratio",
+            "wherryoar_sample", "second_sample", "ratio", "wherryoar_sample"
+        printf "%9s %8s | %13s %10s %5s | %16s %13s %5s | %s\n", "per clock", "", "", "", "", "", "", "", "to wherryoar_run"
+    }
+    {
+        printf "%9d %8d | %13.1f %10.1f %5.2f | %16.1f %13.1f %5.2f | %16.2f\n",
+            $1, $2, $3, $4, $3 / $4, $5, $6, $5 / $6, $5 / $3
+        if ($3 / $4 > run) run = $3 / $4
+        if ($5 / $3 > sample) sample = $5 / $3
+    }
+    END {
+        if (NR == 0) exit 1
+        printf "run at most 1.50 times second_run: %.2f, %s; sample at most 20 times a step of run: %.2f, %s\n",
+            run, run <= 1.5 ? "kept" : "NOT KEPT", sample, sample <= 20 ? "kept" : "NOT KEPT"
+    }'
+}
+
+# The instructions of one run of the bench, by whatever counts them here.
+counted() { # counted ARGUMENTS..
+    if [ -z "$RUN" ]; then
+        valgrind --tool=callgrind --callgrind-out-file=/dev/null "$out/bench" "$@" 2>&1 >/dev/null |
+            sed -n 's/.*Collected *: *\([0-9]*\).*/\1/p'
+    else
+        $RUN -plugin "$out/count.so" "$out/bench" "$@" 2>&1 >/dev/null | sed -n 's/^instructions \([0-9]*\)$/\1/p'
+    fi
+}
+
+# The instructions an item takes in a function: the capture fed twice less the capture fed once.
+per_item() { # per_item FUNCTION SAMPLES-PER-CLOCK ITEMS
+    local once twice
+    once=$(counted "$1" "$2" 1)
+    twice=$(counted "$1" "$2" 2)
+    [ -n "$once" ] && [ -n "$twice" ] || return 1
+    awk -v a="$once" -v b="$twice" -v n="$3" 'BEGIN { printf "%.3f", (b - a) / n }'
+}
+
+# A table of instructions.
+count_all() {
+    local density items function line
+    for density in 2 4 20 100; do
+        items=$($RUN "$out/bench" second_run "$density" 1)
+        line="$density $items"
+        for function in wherryoar_run second_run wherryoar_sample second_sample; do
+            line="$line $(per_item "$function" "$density" "$items")" || return 1
+        done
+        echo "$line"
+    done
+}
+
+# The emulator's counter, for the version of its plugins that it takes.
+build_counter() {
+    local version
+    need gcc gcc || return 1
+    for version in 1 2 3 4 5; do
+        gcc -std=c99 -O2 -Wall -Wextra -Wpedantic -Werror -fPIC -shared -DPLUGIN_VERSION=$version -o "$out/count.so" \
+            bench/count.c || return 1
+        [ -n "$(counted second_run 2 0)" ] && return 0
+    done
+    return 1
+}
+
+if [ -z "$RUN" ]; then
+    "$out/bench" >"$out/times" || exit 1
+    table "nanoseconds (best of several)" <"$out/times" || exit 1
+    echo
+    need valgrind valgrind || exit 2
+    counter="valgrind's callgrind"
+else
+    echo "This machine is $(uname -m): the archive runs under an emulator, where times mean nothing, so none are given."
+    if ! build_counter; then
+        echo "The emulator takes no plugin that counts, so no instructions are given either."
+        exit 0
+    fi
+    counter="a plugin of the emulator"
+fi
+count_all >"$out/counts" || exit 1
+table "instructions (x86-64, counted by $counter)" <"$out/counts"

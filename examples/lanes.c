@@ -1,0 +1,322 @@
+/* A host in C: two channels on one bus, each with a state and a window of its own, fed with a capture and drawn as lanes. */
+#include "wherryoar.h"
+
+#include <stdio.h>
+#include <string.h>
+
+enum { SDA = 1, SCL = 2, SSPIF = 1, P = 0x10 };
+
+enum { CHANNELS = 2, MEMORY = 48, ITEMS = 4096, WIDTH = 80 };
+
+/* A channel: its state, its window in the host's memory, and what was seen of it after each item. */
+typedef struct {
+    uint8_t state[WHERRYOAR_STATE_LENGTH];
+    uint8_t add;
+    uint64_t start, n;
+    wherryoar_view seen[ITEMS];
+} channel;
+
+/* The host: two channels, one memory with a window for each, one capture. */
+typedef struct {
+    channel channels[CHANNELS];
+    uint8_t memory[MEMORY];
+    char driven[ITEMS];     /* the items as they were written */
+    size_t length;
+} host;
+
+/* A row of the picture, a character for each item from one up to another. */
+typedef struct {
+    size_t from, to;
+    char text[WIDTH + 1];
+} row;
+
+/* ---- Feeding ---- */
+
+/* Sets up a channel over its window. */
+static int set_up(channel *c, uint8_t add, uint64_t start, uint64_t n)
+{
+    c->add = add;
+    c->start = start;
+    c->n = n;
+    return wherryoar_setup(c->state, sizeof c->state, add, n).refusal == WHERRYOAR_DONE;
+}
+
+/* The lines that a channel pulls low, as bits of a level. */
+static unsigned pulls(const channel *c)
+{
+    wherryoar_view v = wherryoar_look(c->state, sizeof c->state);
+
+    return (v.scl_pulled ? SCL : 0u) | (v.sda_pulled ? SDA : 0u);
+}
+
+/* One item for both channels. A sample is what everybody else drives: the master's level, less what the other one pulls. */
+static int feed(host *h, char item)
+{
+    const unsigned pulled[CHANNELS] = {pulls(&h->channels[0]), pulls(&h->channels[1])};
+    int i;
+
+    if (h->length == ITEMS)
+        return 0;
+    for (i = 0; i < CHANNELS; i++) {
+        channel *c = &h->channels[i];
+        wherryoar_answer a;
+
+        if (item == 'h')
+            a = wherryoar_call(c->state, sizeof c->state, h->memory, sizeof h->memory, c->start, c->n);
+        else
+            a = wherryoar_sample(c->state, sizeof c->state, (uint8_t)((unsigned)(item - '0') & ~pulled[1 - i]));
+        if (a.refusal != WHERRYOAR_DONE)
+            return 0;
+        c->seen[h->length] = wherryoar_look(c->state, sizeof c->state);
+    }
+    h->driven[h->length++] = item;
+    return 1;
+}
+
+/* The whole capture: digits 0 to 3 and h; spaces and newlines are skipped. */
+static int feed_file(host *h, FILE *file)
+{
+    int c;
+
+    while ((c = getc(file)) != EOF) {
+        if (c == ' ' || c == '\n')
+            continue;
+        if ((c != 'h' && (c < '0' || c > '3')) || !feed(h, (char)c)) {
+            fprintf(stderr, "item %lu cannot be taken\n", (unsigned long)h->length);
+            return 0;
+        }
+    }
+    return 1;
+}
+
+/* ---- What happened at an item ---- */
+
+/* Whether a Start was seen there: only a Start sets the mark. */
+static int is_start(const channel *c, size_t item)
+{
+    return c->seen[item].mark && (item == 0 || !c->seen[item - 1].mark);
+}
+
+/* Whether a Stop was seen there: only a Stop sets P. */
+static int is_stop(const channel *c, size_t item)
+{
+    return (c->seen[item].stat & P) && (item == 0 || !(c->seen[item - 1].stat & P));
+}
+
+/* The phase in a word short enough for its lane. */
+static const char *phase_name(const wherryoar_view *v)
+{
+    static const char *const names[8] = {"quiet", "address", "data", "held", "ack", "held", "sending", "M"};
+
+    if (v->scl_pulled)
+        return "held";
+    return v->phase == WHERRYOAR_SLOT && !v->sda_pulled ? "no" : names[v->phase & 7];
+}
+
+/* Whether an item begins a new stretch of the phase lane. */
+static int begins_phase(const channel *c, size_t item)
+{
+    return item == 0 || is_start(c, item) || strcmp(phase_name(&c->seen[item]), phase_name(&c->seen[item - 1])) != 0;
+}
+
+/* Whether an item begins a new stretch of the pointer lane. */
+static int begins_pointer(const channel *c, size_t item)
+{
+    return item == 0 || c->seen[item].pointer != c->seen[item - 1].pointer;
+}
+
+/* ---- Lanes ---- */
+
+/* Prints a row under its name, without blanks at its end. */
+static void print_row(const char *name, row *r)
+{
+    size_t length = r->to - r->from;
+
+    while (length > 0 && r->text[length - 1] == ' ')
+        length--;
+    r->text[length] = '\0';
+    printf("%-10s%s\n", name, r->text);
+}
+
+/* Writes as much of a label as fits between two items. */
+static void write_label(row *r, size_t item, size_t end, const char *label)
+{
+    for (; item < end && item < r->to && *label != '\0'; item++)
+        r->text[item - r->from] = *label++;
+}
+
+/* SCL or SDA as the wire is: _ low, - high, the edges between them; on SDA a Start and a Stop by their letters. */
+static void draw_line(const char *name, const channel *c, row r, unsigned line)
+{
+    size_t i;
+
+    for (i = r.from; i < r.to; i++) {
+        int now = (c->seen[i].wire & line) != 0;
+        int before = i == 0 ? now : (c->seen[i - 1].wire & line) != 0;
+        char sign = now ? '-' : '_';
+
+        if (now != before)
+            sign = now ? '/' : '\\';
+        if (line == SDA && now != before && (is_start(c, i) || is_stop(c, i)))
+            sign = now ? 'P' : 'S';
+        r.text[i - r.from] = sign;
+    }
+    print_row(name, &r);
+}
+
+/* The three lanes that are on or off. */
+static void draw_bars(const channel *c, row r)
+{
+    row flagged = r, held = r, acknowledged = r;
+    size_t i;
+
+    for (i = r.from; i < r.to; i++) {
+        const wherryoar_view *v = &c->seen[i];
+
+        flagged.text[i - r.from] = v->flag & SSPIF ? '#' : '.';
+        held.text[i - r.from] = v->scl_pulled ? '#' : '.';
+        acknowledged.text[i - r.from] = v->phase == WHERRYOAR_SLOT && v->sda_pulled ? '#' : '.';
+    }
+    print_row("  SSPIF", &flagged);
+    print_row("  held", &held);
+    print_row("  ack", &acknowledged);
+}
+
+/* The label of a stretch of phases: its name, and the byte once it is whole. */
+static void phase_label(const channel *c, size_t item, size_t end, char *label, size_t room)
+{
+    const wherryoar_view *v = &c->seen[end - 1];
+
+    if (v->phase == WHERRYOAR_SENDING || v->bits == 8)
+        snprintf(label, room, "%s %02X", phase_name(v), v->byte);
+    else
+        snprintf(label, room, "%s", phase_name(&c->seen[item]));
+}
+
+/* The phases by name, or the pointer by number: a bar where a stretch begins, then its label. */
+static void draw_stretches(const char *name, const host *h, const channel *c, row r,
+                           int (*begins)(const channel *, size_t))
+{
+    size_t item = r.from, end;
+    char label[24];
+
+    for (; item < r.to; item = end) {
+        end = item + 1;
+        while (end < h->length && !begins(c, end))
+            end++;
+        if (begins == begins_phase)
+            phase_label(c, item, end, label, sizeof label);
+        else
+            snprintf(label, sizeof label, "%u", c->seen[item].pointer);
+        if (begins(c, item)) {
+            r.text[item - r.from] = '|';
+            write_label(&r, item + 1, end, label);
+        } else {
+            write_label(&r, item, end, label);
+        }
+    }
+    print_row(name, &r);
+}
+
+/* ---- The picture ---- */
+
+/* The number of every tenth item, and the items as they were written. */
+static void draw_items(const host *h, row r)
+{
+    row numbers = r;
+    size_t i;
+    char label[24];
+
+    for (i = r.from; i < r.to; i++) {
+        r.text[i - r.from] = h->driven[i];
+        snprintf(label, sizeof label, "%lu", (unsigned long)i);
+        if (i % 10 == 0 && strlen(label) <= r.to - i)
+            write_label(&numbers, i, r.to, label);
+    }
+    print_row("item", &numbers);
+    print_row("driven", &r);
+}
+
+/* All lanes of a channel. */
+static void draw_channel(const host *h, int number, row r)
+{
+    const channel *c = &h->channels[number];
+
+    printf("channel %d, ADD %02X\n", number + 1, c->add);
+    draw_line("  SCL", c, r, SCL);
+    draw_line("  SDA", c, r, SDA);
+    draw_stretches("  phase", h, c, r, begins_phase);
+    draw_bars(c, r);
+    draw_stretches("  pointer", h, c, r, begins_pointer);
+}
+
+/* The items in pieces of one width, and for each piece both channels. */
+static void draw(const host *h)
+{
+    row r;
+
+    memset(r.text, ' ', WIDTH);
+    r.text[WIDTH] = '\0';
+    for (r.from = 0; r.from < h->length; r.from = r.to) {
+        r.to = h->length - r.from < WIDTH ? h->length : r.from + WIDTH;
+        putchar('\n');
+        draw_items(h, r);
+        draw_channel(h, 0, r);
+        draw_channel(h, 1, r);
+    }
+}
+
+/* The bytes in the windows of both channels. */
+static void print_memory(const host *h, const char *when)
+{
+    uint64_t i;
+    int number;
+
+    printf("\nmemory %s\n", when);
+    for (number = 0; number < CHANNELS; number++) {
+        printf("  channel %d ", number + 1);
+        for (i = 0; i < h->channels[number].n; i++)
+            printf(" %02X", h->memory[h->channels[number].start + i]);
+        putchar('\n');
+    }
+}
+
+/* What the lanes and their signs mean. */
+static void print_legend(void)
+{
+    printf("A column is an item and shows what is seen after it; a pull acts from the next item on.\n"
+           "  driven   what the master drives, 2 * SCL + SDA; h: both handlers are called\n"
+           "  SCL, SDA the wire; S, P on SDA: Start, Stop\n"
+           "  phase    quiet; address, data, sending, with the byte in hex; held: the clock is held;\n"
+           "           ack, no: the acknowledge slot, pulled or not; M: the master's acknowledge\n"
+           "  SSPIF    # the flag is set\n"
+           "  held     # the channel holds SCL low\n"
+           "  ack      # the channel pulls SDA low in the acknowledge slot\n"
+           "  pointer  the handler's place in the channel's memory, decimal\n");
+}
+
+/* Feeds the capture named to both channels and draws them. */
+int main(int argc, char **argv)
+{
+    static host h;
+    FILE *file = argc == 2 ? fopen(argv[1], "r") : NULL;
+    size_t i;
+    int fed;
+
+    if (file == NULL) {
+        fprintf(stderr, "usage: lanes CAPTURE\n");
+        return 2;
+    }
+    for (i = 0; i < MEMORY; i++)
+        h.memory[i] = (uint8_t)(0xA0 + i);
+    fed = set_up(&h.channels[0], 0x30, 0, 16) && set_up(&h.channels[1], 0x52, 40, 8);
+    print_legend();
+    print_memory(&h, "before");
+    fed = fed && feed_file(&h, file);
+    fclose(file);
+    if (!fed)
+        return 1;
+    draw(&h);
+    print_memory(&h, "after");
+    return 0;
+}

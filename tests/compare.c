@@ -1,0 +1,456 @@
+/* Drives the archive and the second program side by side with generated traffic and stops at the first difference. */
+#include "round.h"
+#include "traffic.h"
+
+#include <stdio.h>
+#include <stdlib.h>
+#include <string.h>
+
+enum { BUF, STAT, CON1, CON2, CON3, ADD, MSK, FLAG, REGISTERS };
+
+enum { QUIET, ADDRESS, DATA, HELD_BEFORE, SLOT, HELD_SENDING, SENDING, MASTER_ACK, PHASES };
+
+/* The shortest trace to a spoiled place has 24 steps; one that is not much longer is short. */
+enum { REFUSALS = 8, NO_WIRE = 255, NO_ITEM = 255, SHORT_TRACE = 30 };
+
+/* All that the comparison keeps; the counts tell what was reached, so that a pass says something. */
+typedef struct {
+    traffic source;
+    pair both;
+    round_of_steps round;
+    uint8_t record[PAIR_BYTES];   /* the last wire levels */
+    unsigned recorded;
+    int placing;                  /* whether states are placed as images */
+    int difference;
+    unsigned long steps, wanted, kinds[PAIR_KINDS], refused[REFUSALS], phases[PHASES];
+} bench;
+
+/* ---- Steps ---- */
+
+/* A step of a kind with nothing else in it but the round's window; behind the end of a trace or a record stand bad items. */
+static pair_step step_of(bench *b, int kind)
+{
+    pair_step s;
+
+    memset(&s, 0, sizeof s);
+    s.kind = (uint8_t)kind;
+    s.state_length = PAIR_IMAGE;
+    if (kind == PAIR_CALL || kind == PAIR_RUN) {
+        s.start = b->round.start;
+        s.n = b->both.second.view.n;
+        s.buffer_length = PAIR_BUFFER;
+    }
+    if (kind == PAIR_RUN || kind == PAIR_FIND)
+        memset(s.bytes, NO_ITEM, PAIR_BYTES);
+    return s;
+}
+
+/* Counts what a step has reached. */
+static void count(bench *b, const pair_step *s)
+{
+    b->steps++;
+    b->kinds[s->kind]++;
+    b->refused[b->both.second.outcome.refusal & 7]++;
+    b->phases[b->both.second.view.phase & 7]++;
+}
+
+/* Makes a step on both and keeps it. */
+static void make(bench *b, const pair_step *s)
+{
+    round_of_steps *r = &b->round;
+
+    if (b->difference || r->count == ROUND_STEPS)
+        return;
+    r->steps[r->count++] = *s;
+    b->difference = pair_make(&b->both, s);
+    count(b, s);
+    if (s->kind == PAIR_SAMPLE) {
+        if (b->recorded == PAIR_BYTES)
+            memmove(b->record, b->record + 1, --b->recorded);
+        b->record[b->recorded++] = b->both.second.view.wire & 3;
+    }
+    if (b->difference || r->count == ROUND_STEPS)
+        b->source.left = 0;
+}
+
+/* ---- Register access at odd times ---- */
+
+/* A byte to write: mostly one that keeps the traffic going. */
+static unsigned some_value(bench *b, int number)
+{
+    static const uint8_t modes[6] = {0x36, 0x3E, 0x26, 0x2E, 0xF6, 0x16};
+    unsigned any = traffic_below(&b->source, 256);
+    int wild = traffic_once_in(&b->source, 6);
+
+    if (wild)
+        return any;
+    switch (number) {
+    case CON1:
+        return modes[traffic_below(&b->source, 6)];
+    case CON2:
+        return any & 0xE1;
+    case CON3:
+        return any & 0xEF;
+    case ADD:
+        return b->round.add;
+    case MSK:
+        return any | 0xF0;
+    case FLAG:
+        return any & 1;
+    default:
+        return any;
+    }
+}
+
+/* A read or a write, of any register and now and then of none. */
+static void access_register(bench *b)
+{
+    int writes = !traffic_once_in(&b->source, 3);
+    pair_step s = step_of(b, writes ? PAIR_WRITE : PAIR_READ);
+
+    s.number = (uint8_t)traffic_below(&b->source, traffic_once_in(&b->source, 10) ? 256 : REGISTERS);
+    if (writes)
+        s.value = (uint8_t)some_value(b, s.number);
+    make(b, &s);
+}
+
+/* A module switched off by a write is mostly switched on again. */
+static void switch_on(bench *b)
+{
+    pair_step s = step_of(b, PAIR_WRITE);
+
+    s.number = CON1;
+    s.value = traffic_once_in(&b->source, 4) ? 0x3E : 0x36;
+    make(b, &s);
+}
+
+/* ---- Steps that are refused ---- */
+
+/* A number at or near the end of its range. */
+static uint64_t some_edge(bench *b)
+{
+    switch (traffic_below(&b->source, 6)) {
+    case 0:
+        return UINT64_MAX - traffic_below(&b->source, 300);
+    case 1:
+        return ((uint64_t)1 << 32) + traffic_below(&b->source, 300);
+    case 2:
+        return 65536u + traffic_below(&b->source, 300);
+    default:
+        return traffic_below(&b->source, PAIR_BUFFER + 8);
+    }
+}
+
+/* A window that need not fit. */
+static void odd_window(bench *b, pair_step *s)
+{
+    switch (traffic_below(&b->source, 4)) {
+    case 0:
+        s->n = traffic_once_in(&b->source, 2) ? some_edge(b) : s->n + traffic_below(&b->source, 3) - 1;
+        break;
+    case 1:
+        s->buffer_length = traffic_below(&b->source, PAIR_BUFFER + 1);
+        break;
+    case 2:
+        s->start = PAIR_BUFFER - s->n + traffic_below(&b->source, 3) - 1;
+        break;
+    default:
+        s->start = some_edge(b);
+        break;
+    }
+}
+
+/* A step with something wrong in it, or two things. */
+static void odd_step(bench *b)
+{
+    static const uint8_t kinds[6] = {PAIR_SAMPLE, PAIR_CALL, PAIR_READ, PAIR_WRITE, PAIR_SETUP, PAIR_RUN};
+    pair_step s = step_of(b, kinds[traffic_below(&b->source, 6)]);
+
+    s.number = (uint8_t)traffic_below(&b->source, 256);
+    s.value = (uint8_t)traffic_below(&b->source, 256);
+    if (s.kind == PAIR_CALL || s.kind == PAIR_RUN) {
+        odd_window(b, &s);
+        s.number = s.value = 0;
+        s.count = s.kind == PAIR_RUN;
+        s.bytes[0] = (uint8_t)traffic_below(&b->source, 8);
+    } else if (s.kind == PAIR_SETUP) {
+        s.n = traffic_once_in(&b->source, 2) ? 0 : 257 + some_edge(b) % 100000;
+    }
+    if (traffic_once_in(&b->source, 4))
+        s.state_length = (uint8_t)traffic_below(&b->source, PAIR_LONGEST + 1);
+    make(b, &s);
+}
+
+/* ---- Runs and records ---- */
+
+/* One item at the end of a run. */
+static void put(pair_step *s, unsigned item)
+{
+    if (s->count < PAIR_BYTES)
+        s->bytes[s->count++] = (uint8_t)item;
+}
+
+/* A byte with its ninth slot and one handler call, two samples to a clock. */
+static void put_byte(pair_step *s, unsigned value, unsigned ninth)
+{
+    int i;
+
+    for (i = 7; i >= 0; i--) {
+        put(s, (value >> i) & 1);
+        put(s, TRAFFIC_SCL | ((value >> i) & 1));
+    }
+    put(s, ninth);
+    put(s, TRAFFIC_SCL | ninth);
+    put(s, ninth);
+    put(s, TRAFFIC_CALL);
+}
+
+/* A run: a message of two bytes, or items without sense; now and then with one that is none. */
+static void run(bench *b)
+{
+    pair_step s = step_of(b, PAIR_RUN);
+    unsigned address = (b->round.add & 0xFEu) | traffic_below(&b->source, 2);
+    unsigned items = traffic_below(&b->source, PAIR_BYTES + 1);
+
+    if (traffic_once_in(&b->source, 3)) {
+        while (items-- > 0)
+            put(&s, traffic_below(&b->source, 5));
+    } else {
+        put(&s, 1);
+        put(&s, 3);
+        put(&s, 2);
+        put(&s, 0);
+        put_byte(&s, address, 1);
+        put_byte(&s, address & 1 ? 0xFF : traffic_below(&b->source, 256), traffic_below(&b->source, 2));
+        put_byte(&s, address & 1 ? 0xFF : traffic_below(&b->source, 256), 1);
+    }
+    if (s.count > 0 && traffic_once_in(&b->source, 20))
+        s.bytes[traffic_below(&b->source, s.count)] = (uint8_t)(5 + traffic_below(&b->source, 251));
+    if (traffic_once_in(&b->source, 20))
+        odd_window(b, &s);
+    make(b, &s);
+}
+
+/* The finder on the last wire levels, or on any, SCL mostly high; now and then with a bad level or an item past the end. */
+static void find(bench *b)
+{
+    pair_step s = step_of(b, PAIR_FIND);
+    int any = traffic_once_in(&b->source, 2);
+    unsigned i;
+
+    s.count = (uint8_t)traffic_below(&b->source, (any ? (unsigned)PAIR_BYTES : b->recorded) + 1);
+    memcpy(s.bytes, b->record, s.count);
+    for (i = 0; any && i < s.count; i++)
+        s.bytes[i] = (uint8_t)(traffic_below(&b->source, 4) | (traffic_once_in(&b->source, 3) ? 0 : TRAFFIC_SCL));
+    if (s.count > 0 && traffic_once_in(&b->source, 12))
+        s.bytes[traffic_below(&b->source, s.count)] = (uint8_t)traffic_below(&b->source, 256);
+    s.start = traffic_once_in(&b->source, 20) ? some_edge(b) : traffic_below(&b->source, s.count + 1u);
+    make(b, &s);
+}
+
+/* ---- States placed as images ---- */
+
+/* Registers of a state: any but for what the paper rules out, given its phase. */
+static void some_registers(bench *b, uint8_t *image, int phase)
+{
+    int holds = phase == HELD_BEFORE || phase == HELD_SENDING, i;
+
+    for (i = 0; i < REGISTERS; i++)
+        image[i] = (uint8_t)traffic_below(&b->source, 256);
+    image[STAT] &= traffic_once_in(&b->source, 2) ? 0xE5 : 0xF5;
+    if (!(image[STAT] & 0x10) && !traffic_once_in(&b->source, 3))
+        image[STAT] |= 0x08;
+    image[CON1] = (uint8_t)((image[CON1] & (holds ? 0xE8 : 0xF8)) | 0x06);
+    if (phase != QUIET)
+        image[CON1] |= 0x20;
+    image[CON2] &= 0xE1;
+    image[CON3] &= 0xEF;
+    if (!traffic_once_in(&b->source, 4))
+        image[ADD] = b->round.add;
+    if (!traffic_once_in(&b->source, 4))
+        image[MSK] = 0xFF;
+    image[FLAG] &= 1;
+}
+
+/* The phase's parts, wire and mark of a state. */
+static void some_phase(bench *b, uint8_t *image, int phase)
+{
+    unsigned wire = traffic_once_in(&b->source, 12) ? NO_WIRE : traffic_below(&b->source, 4);
+    unsigned count = traffic_below(&b->source, 9);
+
+    image[8] = (uint8_t)phase;
+    if (phase == SENDING) {
+        image[9] = (uint8_t)(count & 7);
+        image[10] = (uint8_t)traffic_below(&b->source, 256);
+    } else if (phase == ADDRESS || phase == DATA) {
+        if (traffic_once_in(&b->source, 4))
+            count = 8;
+        if (count == 8)
+            wire |= TRAFFIC_SCL;
+        image[9] = (uint8_t)count;
+        image[10] = (uint8_t)traffic_below(&b->source, 1u << count);
+    }
+    if (phase == DATA && traffic_once_in(&b->source, 4)) {
+        image[9] = image[10] = 0;
+        image[11] = 1;
+        image[CON1] &= 0xEF;
+    } else if (phase == HELD_BEFORE || phase == SLOT) {
+        image[11] = (uint8_t)traffic_below(&b->source, 2);
+    }
+    image[12] = (uint8_t)(wire > 3 ? (unsigned)NO_WIRE : wire);
+    if (phase == ADDRESS && image[9] == 0 && (wire == 2 || wire == 3) && (image[STAT] & 0x08))
+        image[13] = (uint8_t)traffic_below(&b->source, 2);
+}
+
+/* Changes a byte of a state: to any value, by one, or to what is just past its range. */
+static void spoil(bench *b, uint8_t *image, unsigned n)
+{
+    static const uint8_t places[7] = {8, 9, 11, 12, 12, 13, 20}, values[7] = {8, 9, 2, 1, 4, 2, 2};
+    unsigned pick = traffic_below(&b->source, 10), place = traffic_below(&b->source, 21);
+
+    if (pick < 7)
+        image[places[pick]] = values[pick];
+    else if (pick == 7)
+        image[18] = (uint8_t)n;
+    else if (pick == 8)
+        image[place] = (uint8_t)(image[place] + (traffic_once_in(&b->source, 2) ? 1 : 255));
+    else
+        image[traffic_below(&b->source, PAIR_IMAGE)] = (uint8_t)traffic_below(&b->source, 256);
+}
+
+/* Any state, and now and then bytes that are none's; the handler's n is mostly the round's. */
+static void place(bench *b)
+{
+    pair_step s = step_of(b, PAIR_PLACE);
+    int phase = (int)traffic_below(&b->source, PHASES);
+    unsigned n = traffic_once_in(&b->source, 8) ? 1 + traffic_below(&b->source, 256) : b->round.n, pointer;
+
+    some_registers(b, s.bytes, phase);
+    some_phase(b, s.bytes, phase);
+    pointer = traffic_once_in(&b->source, 2) ? traffic_below(&b->source, n) : n - 1;
+    s.bytes[16] = (uint8_t)n;
+    s.bytes[17] = (uint8_t)(n >> 8);
+    s.bytes[18] = (uint8_t)pointer;
+    s.bytes[19] = (uint8_t)(pointer >> 8);
+    s.bytes[20] = (uint8_t)traffic_below(&b->source, 2);
+    if (traffic_once_in(&b->source, 4))
+        spoil(b, s.bytes, n);
+    make(b, &s);
+}
+
+/* ---- Traffic ---- */
+
+/* Takes an item of the traffic, now and then with another step before it. */
+static int take(void *to, unsigned item)
+{
+    bench *b = to;
+    pair_step s;
+
+    if (traffic_once_in(&b->source, 30))
+        access_register(b);
+    if (traffic_once_in(&b->source, 60))
+        odd_step(b);
+    if (b->placing && traffic_once_in(&b->source, 50))
+        place(b);
+    if (traffic_once_in(&b->source, 60))
+        find(b);
+    if (!(b->both.second.view.con1 & 0x20) && traffic_once_in(&b->source, 8))
+        switch_on(b);
+    s = step_of(b, item == TRAFFIC_CALL ? PAIR_CALL : PAIR_SAMPLE);
+    if (s.kind == PAIR_SAMPLE)
+        s.number = (uint8_t)item;
+    make(b, &s);
+    return b->both.second.view.scl_pulled;
+}
+
+/* Both afresh, with a window anywhere in a buffer of any bytes. */
+static void fresh(bench *b)
+{
+    static const uint16_t lengths[6] = {1, 2, 3, 32, 255, 256};
+    round_of_steps *r = &b->round;
+    unsigned pick = traffic_below(&b->source, 8), i;
+
+    r->count = 0;
+    r->add = (uint8_t)(traffic_once_in(&b->source, 3) ? 0x30 : traffic_below(&b->source, 256));
+    r->n = (uint16_t)(pick < 6 ? lengths[pick] : 1 + traffic_below(&b->source, 256));
+    r->start = traffic_below(&b->source, PAIR_BUFFER - r->n + 1u);
+    for (i = 0; i < PAIR_BUFFER; i++)
+        r->buffer[i] = (uint8_t)traffic_below(&b->source, 256);
+    b->recorded = 0;
+    b->source.add = r->add;
+    b->source.n = r->n;
+    b->source.left = ROUND_STEPS;
+    b->source.held = 0;
+    b->difference = pair_setup(&b->both, r->add, r->n, r->buffer);
+}
+
+/* One round, from its setup up to its last step or the first difference. */
+static void round_once(bench *b)
+{
+    fresh(b);
+    while (b->source.left > 0 && b->round.count < ROUND_STEPS && b->steps < b->wanted && !b->difference) {
+        unsigned pick = traffic_below(&b->source, 12);
+
+        if (pick < 7)
+            traffic_message(&b->source);
+        else if (pick < 8)
+            traffic_noise(&b->source);
+        else if (pick < 9)
+            find(b);
+        else
+            run(b);
+    }
+}
+
+/* ---- The whole ---- */
+
+/* Tells what was reached. */
+static void tell_reach(const bench *b)
+{
+    printf("# samples %lu calls %lu reads %lu writes %lu runs %lu placed %lu setups %lu finds %lu\n",
+           b->kinds[PAIR_SAMPLE], b->kinds[PAIR_CALL], b->kinds[PAIR_READ], b->kinds[PAIR_WRITE],
+           b->kinds[PAIR_RUN], b->kinds[PAIR_PLACE], b->kinds[PAIR_SETUP], b->kinds[PAIR_FIND]);
+    printf("# refused 1: %lu 2: %lu 3: %lu 4: %lu 5: %lu 6: %lu 7: %lu\n", b->refused[1], b->refused[2],
+           b->refused[3], b->refused[4], b->refused[5], b->refused[6], b->refused[7]);
+    printf("# after a step: quiet %lu address %lu data %lu held before %lu slot %lu held for sending %lu"
+           " sending %lu master's acknowledge %lu\n", b->phases[QUIET], b->phases[ADDRESS], b->phases[DATA],
+           b->phases[HELD_BEFORE], b->phases[SLOT], b->phases[HELD_SENDING], b->phases[SENDING],
+           b->phases[MASTER_ACK]);
+}
+
+/* Rounds up to so many steps or the first difference, which is told; answers the steps of the trace told. */
+static size_t rounds(bench *b, unsigned long steps)
+{
+    b->wanted = steps;
+    b->source.take = take;
+    b->source.to = b;
+    b->both.spoiled = b->round.spoiled;
+    while (b->steps < steps && !b->difference)
+        round_once(b);
+    if (!b->difference)
+        return 0;
+    printf("# a difference after %lu steps, the last %lu of them in one round\n", b->steps, (unsigned long)b->round.count);
+    round_shrink(&b->round);
+    return round_tell(&b->round);
+}
+
+/* The argument is the number of steps, the second the seed. With a third, 1 to 4, one bit of the archive's answer, state,
+   buffer or view is turned over at a place; then the difference must be told, and shortly. */
+int main(int argc, char **argv)
+{
+    static bench b;
+    unsigned long steps = argc > 1 ? strtoul(argv[1], NULL, 10) : 1000000ul;
+    size_t told;
+
+    b.source.seed = argc > 2 ? strtoul(argv[2], NULL, 10) | 1u : 20240229u;
+    b.round.spoiled = argc > 3 ? atoi(argv[3]) : PAIR_SAME;
+    b.placing = b.round.spoiled == PAIR_SAME;
+    told = rounds(&b, steps);
+    if (b.round.spoiled != PAIR_SAME) {
+        printf("# spoiled on purpose: %s, told in %lu steps\n", told > 0 ? "found" : "not found", (unsigned long)told);
+        return told > 0 && told <= SHORT_TRACE ? 0 : 1;
+    }
+    tell_reach(&b);
+    printf("%ssteps %lu differences %d\n", b.difference ? "# " : "", b.steps, b.difference != 0);
+    return b.steps > 0 && !b.difference ? 0 : 1;
+}

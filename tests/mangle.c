@@ -1,0 +1,347 @@
+/* Mangles images that random traffic reached: each is refused with 6 and left alone by every call, or taken as a state. */
+#include "door.h"
+#include "traffic.h"
+
+#include <stdio.h>
+#include <stdlib.h>
+#include <string.h>
+
+enum { REGISTERS = 8, CON1 = 2, FLAG = 7, AT_N = 16 };
+
+/* The room that an image is laid into, guard bytes around it and a shift of up to 7 bytes before it. */
+enum { GUARD = 16, SHIFTS = 8, LONGEST = 64, ROOM = GUARD + SHIFTS + LONGEST + GUARD, FILLER = 0x5A };
+
+enum { BUFFER = 320, TRACE = 24, PER_ITEM = 3, EARLIER = 64 };
+
+/* The calls that a mangled image goes through, beside look. */
+enum { SETUP, READ, WRITE, SAMPLE, CALL, RUN };
+static const char *const names[6] = {"setup", "read", "write", "sample", "call", "run"};
+
+/* A mangled image with the length it is lent with. */
+typedef struct {
+    uint8_t bytes[LONGEST];
+    size_t length;
+} mangled;
+
+/* The live state that traffic drives, images it had earlier, and the room that the mangled ones are tried in. */
+typedef struct {
+    traffic source;
+    uint8_t image[DOOR_IMAGE];
+    uint8_t memory[BUFFER];       /* the live state's buffer */
+    uint16_t n;
+    uint8_t earlier[EARLIER][DOOR_IMAGE];
+    uint8_t room[ROOM];
+    uint8_t kept[ROOM];           /* the room as it was before a call */
+    size_t at;                    /* where in the room the image lies */
+    uint8_t buffer[BUFFER];
+    uint8_t untouched[BUFFER];    /* the buffer as it was before a call */
+    unsigned long wanted, mutations, taken, refused, calls, failures;
+} bench;
+
+/* A window with all that a call on it needs. */
+typedef struct {
+    uint64_t start, n;
+    size_t buffer_length;
+} window;
+
+/* The next random number below a limit. */
+static unsigned below(bench *b, unsigned limit)
+{
+    return traffic_below(&b->source, limit);
+}
+
+/* Tells a failure with the image that showed it. */
+static void fail(bench *b, const mangled *m, const char *what)
+{
+    size_t i;
+
+    if (b->failures++ >= 10)
+        return;
+    printf("failed: %s, length %lu, image ", what, (unsigned long)m->length);
+    for (i = 0; i < m->length; i++)
+        printf("%02X", m->bytes[i]);
+    printf("\n");
+}
+
+/* ---- Mutations ---- */
+
+/* Turns over a few bits. */
+static void flip_bits(bench *b, mangled *m)
+{
+    unsigned times = 1 + below(b, 3);
+
+    while (times-- > 0)
+        m->bytes[below(b, DOOR_IMAGE)] ^= (uint8_t)(1u << below(b, 8));
+}
+
+/* Changes a few bytes, to any value, by one, or to one at the edge of a range. */
+static void change_bytes(bench *b, mangled *m)
+{
+    static const uint8_t edges[10] = {0, 1, 2, 3, 4, 7, 8, 9, 254, 255};
+    unsigned times = 1 + below(b, 3);
+
+    while (times-- > 0) {
+        uint8_t *byte = &m->bytes[below(b, below(b, 2) ? DOOR_IMAGE : 21)];
+        unsigned pick = below(b, 4);
+
+        if (pick == 0)
+            *byte = (uint8_t)below(b, 256);
+        else if (pick == 1)
+            *byte = edges[below(b, 10)];
+        else
+            *byte = (uint8_t)(*byte + (pick == 2 ? 1 : 255));
+    }
+}
+
+/* Swaps two bytes. */
+static void swap_bytes(bench *b, mangled *m)
+{
+    unsigned first = below(b, DOOR_IMAGE), second = below(b, DOOR_IMAGE);
+    uint8_t byte = m->bytes[first];
+
+    m->bytes[first] = m->bytes[second];
+    m->bytes[second] = byte;
+}
+
+/* Puts a stretch of an earlier image over this one. */
+static void splice(bench *b, mangled *m)
+{
+    const uint8_t *other = b->earlier[below(b, EARLIER)];
+    unsigned from = below(b, DOOR_IMAGE), length = below(b, DOOR_IMAGE - from + 1);
+
+    memcpy(m->bytes + from, other + from, length);
+}
+
+/* Any bytes at all, the rarer ones with an image's zeros behind. */
+static void any_bytes(bench *b, mangled *m)
+{
+    unsigned places = below(b, 2) ? DOOR_IMAGE : 14, i;
+
+    for (i = 0; i < places; i++)
+        m->bytes[i] = (uint8_t)below(b, 256);
+}
+
+/* The live image, mangled in one of six ways. */
+static void mangle(bench *b, mangled *m)
+{
+    unsigned pick = below(b, 12), i;
+
+    memset(m, 0, sizeof *m);
+    memcpy(m->bytes, b->image, DOOR_IMAGE);
+    m->length = DOOR_IMAGE;
+    if (pick < 3) {
+        flip_bits(b, m);
+    } else if (pick < 6) {
+        change_bytes(b, m);
+    } else if (pick < 8) {
+        swap_bytes(b, m);
+    } else if (pick < 10) {
+        splice(b, m);
+    } else if (pick < 11) {
+        any_bytes(b, m);
+    } else {
+        m->length = below(b, LONGEST + 1);
+        for (i = DOOR_IMAGE; i < LONGEST; i++)
+            m->bytes[i] = (uint8_t)(below(b, 2) ? 0 : below(b, 256));
+    }
+}
+
+/* ---- One call on a mangled image ---- */
+
+/* Lays the image into the room afresh and answers where. */
+static uint8_t *lay(bench *b, const mangled *m)
+{
+    memset(b->room, FILLER, ROOM);
+    memcpy(b->room + b->at, m->bytes, m->length);
+    memcpy(b->kept, b->room, ROOM);
+    b->calls++;
+    return b->room + b->at;
+}
+
+/* Whether state, buffer and guard bytes are as they were. */
+static int left_alone(const bench *b)
+{
+    return memcmp(b->room, b->kept, ROOM) == 0 && memcmp(b->buffer, b->untouched, BUFFER) == 0;
+}
+
+/* Whether only the image and the window have changed, and the image is a state's with the same n. */
+static int well_changed(bench *b, const window *w)
+{
+    const uint8_t *image = b->room + b->at;
+    size_t start = (size_t)w->start, after = start + (size_t)w->n, behind = b->at + DOOR_IMAGE;
+    door_view v = door.look(image, DOOR_IMAGE);
+    int fine = v.refusal == 0 && v.n == w->n
+        && memcmp(b->room, b->kept, b->at) == 0
+        && memcmp(b->room + behind, b->kept + behind, ROOM - behind) == 0
+        && memcmp(b->buffer, b->untouched, start) == 0
+        && memcmp(b->buffer + after, b->untouched + after, BUFFER - after) == 0;
+
+    memcpy(b->buffer + start, b->untouched + start, (size_t)w->n);
+    return fine;
+}
+
+/* Checks a call's answer and what it left, on bytes that are a state's or not. */
+static void check(bench *b, const mangled *m, const window *w, int state, door_answer a, int call)
+{
+    int fine;
+
+    if (!state)
+        fine = a.refusal == 6 && a.value == 0 && a.item == 0 && left_alone(b);
+    else if (a.refusal != 0)
+        fine = call == WRITE && (a.refusal == 2 || a.refusal == 3) && a.value == 0 && a.item == 0 && left_alone(b);
+    else
+        fine = a.item == 0 && (call == READ || a.value == 0) && well_changed(b, w);
+    if (!fine)
+        fail(b, m, names[call]);
+}
+
+/* Register access and a sample. */
+static void single_calls(bench *b, const mangled *m, const window *w, int state)
+{
+    uint8_t number = (uint8_t)below(b, REGISTERS), value = (uint8_t)below(b, 256), level = (uint8_t)below(b, 4);
+
+    if (!state && below(b, 4) == 0) {
+        number = (uint8_t)(REGISTERS + below(b, 248));
+        level = value;
+    }
+    check(b, m, w, state, door.read(lay(b, m), m->length, number), READ);
+    check(b, m, w, state, door.write(lay(b, m), m->length, number, value), WRITE);
+    check(b, m, w, state, door.sample(lay(b, m), m->length, level), SAMPLE);
+}
+
+/* A handler call and a run; bytes that are no state's get them with a wrong window and a bad item too. */
+static void window_calls(bench *b, const mangled *m, const window *w, int state)
+{
+    uint8_t trace[TRACE];
+    size_t length = below(b, TRACE + 1), i;
+
+    for (i = 0; i < length; i++)
+        trace[i] = (uint8_t)below(b, !state && w->n == 0 ? 256 : 5);
+    check(b, m, w, state, door.call(lay(b, m), m->length, b->buffer, w->buffer_length, w->start, w->n), CALL);
+    check(b, m, w, state,
+          door.run(lay(b, m), m->length, b->buffer, w->buffer_length, w->start, w->n, trace, length), RUN);
+}
+
+/* Whether every field of a view but the refusal is 0. */
+static int is_empty(door_view v)
+{
+    return !(v.buf | v.stat | v.con1 | v.con2 | v.con3 | v.add | v.msk | v.flag | v.scl_pulled | v.sda_pulled
+             | v.phase | v.bits | v.byte | v.refused | v.wire | v.mark | v.due | v.n | v.pointer);
+}
+
+/* A window that fits a state's n, anywhere in the buffer; for no state's bytes the live one's n or none. */
+static window some_window(bench *b, int state, unsigned n)
+{
+    window w;
+
+    w.n = state ? n : below(b, 2) ? b->n : 0;
+    w.start = below(b, BUFFER - (unsigned)w.n + 1);
+    w.buffer_length = (size_t)w.start + (size_t)w.n;
+    w.buffer_length += below(b, BUFFER - (unsigned)w.buffer_length + 1);
+    return w;
+}
+
+/* One mutation through every call. */
+static void try_one(bench *b)
+{
+    mangled m;
+    door_view v;
+    window w;
+    int state;
+
+    mangle(b, &m);
+    b->mutations++;
+    b->at = GUARD + below(b, SHIFTS);
+    v = door.look(lay(b, &m), m.length);
+    state = v.refusal == 0;
+    b->taken += (unsigned long)state;
+    b->refused += (unsigned long)!state;
+    if (!left_alone(b))
+        fail(b, &m, "look leaves all alone");
+    if (!state && (v.refusal != 6 || !is_empty(v)))
+        fail(b, &m, "look on no state's bytes");
+    if (state && (m.length != DOOR_IMAGE || v.n != m.bytes[AT_N] + 256u * m.bytes[AT_N + 1]))
+        fail(b, &m, "look takes another length or tells another n");
+    w = some_window(b, state, v.n);
+    single_calls(b, &m, &w, state);
+    window_calls(b, &m, &w, state);
+    if (m.length != DOOR_IMAGE)
+        check(b, &m, &w, 0, door.setup(lay(b, &m), m.length, 0x30, below(b, 300)), SETUP);
+}
+
+/* ---- The live state ---- */
+
+/* Now and then a register of the live state is written, so that every kind of hold and slot comes up. */
+static void set_register(bench *b)
+{
+    static const uint8_t kept[REGISTERS] = {0xFF, 0xFF, 0, 0xE1, 0xEF, 0xFF, 0xFF, 0x01};
+    unsigned number = below(b, REGISTERS), value = below(b, 256) & kept[number];
+
+    if (number == CON1)
+        value = below(b, 12) == 0 ? 0x16 : below(b, 2) ? 0x36 : 0x3E;
+    if (number < 5 || number == FLAG || below(b, 8) == 0)
+        (void)door.write(b->image, DOOR_IMAGE, (uint8_t)number, (uint8_t)value);
+}
+
+/* Takes an item of the traffic on the live state, and mangles the image a few times. */
+static int take(void *to, unsigned item)
+{
+    bench *b = to;
+    door_answer a;
+    int i;
+
+    if (below(b, 50) == 0)
+        set_register(b);
+    a = item == TRAFFIC_CALL ? door.call(b->image, DOOR_IMAGE, b->memory, BUFFER, GUARD, b->n)
+                             : door.sample(b->image, DOOR_IMAGE, (uint8_t)item);
+    if (a.refusal != 0)
+        b->failures++;
+    memcpy(b->earlier[below(b, EARLIER)], b->image, DOOR_IMAGE);
+    for (i = 0; i < PER_ITEM && b->mutations < b->wanted; i++)
+        try_one(b);
+    if (b->mutations == b->wanted)
+        b->source.left = 0;
+    return door.look(b->image, DOOR_IMAGE).scl_pulled;
+}
+
+/* A fresh live state over a memory of any bytes. */
+static void fresh(bench *b)
+{
+    static const uint16_t lengths[6] = {1, 2, 32, 200, 255, 256};
+    unsigned i;
+
+    b->n = lengths[below(b, 6)];
+    b->source.add = (uint8_t)below(b, 256);
+    b->source.n = b->n;
+    b->source.left = 4000;
+    b->source.held = 0;
+    for (i = 0; i < BUFFER; i++)
+        b->memory[i] = (uint8_t)below(b, 256);
+    memcpy(b->buffer, b->memory, BUFFER);
+    memcpy(b->untouched, b->memory, BUFFER);
+    if (door.setup(b->image, DOOR_IMAGE, b->source.add, b->n).refusal != 0)
+        b->failures++;
+}
+
+/* The argument is the number of mutations. */
+int main(int argc, char **argv)
+{
+    static bench b;
+
+    b.wanted = argc > 1 ? strtoul(argv[1], NULL, 10) : 2000000ul;
+    b.source.seed = 20240229u;
+    b.source.take = take;
+    b.source.to = &b;
+    while (b.mutations < b.wanted) {
+        fresh(&b);
+        while (b.source.left > 0) {
+            if (below(&b, 10) == 0)
+                traffic_noise(&b.source);
+            else
+                traffic_message(&b.source);
+        }
+    }
+    printf("mutations %lu refused %lu taken %lu calls %lu failures %lu\n",
+           b.mutations, b.refused, b.taken, b.calls, b.failures);
+    return b.failures == 0 && b.taken > 0 && b.refused > 0 ? 0 : 1;
+}

@@ -1,0 +1,160 @@
+/* The traffic that tests drive: a master's messages with everything that can go wrong on a wire thrown in now and then. */
+#include "traffic.h"
+
+enum { SDA = TRAFFIC_SDA, SCL = TRAFFIC_SCL };
+
+/* ---- Chance ---- */
+
+/* The next random number below a limit. */
+unsigned traffic_below(traffic *t, unsigned limit)
+{
+    uint64_t x = t->seed;
+
+    x ^= x >> 12;
+    x ^= x << 25;
+    x ^= x >> 27;
+    t->seed = x;
+    return (unsigned)((x * 2685821657736338717u) >> 33) % limit;
+}
+
+/* True once in so many times. */
+int traffic_once_in(traffic *t, unsigned times)
+{
+    return traffic_below(t, times) == 0;
+}
+
+/* ---- Items ---- */
+
+/* One item, as long as any may be driven. */
+static void drive(traffic *t, unsigned item)
+{
+    if (t->left == 0)
+        return;
+    t->left--;
+    t->held = t->take(t->to, item);
+}
+
+/* A level as the master wants it, now and then with a stray level, a handler call or the same level before it. */
+static void level(traffic *t, unsigned wanted)
+{
+    if (traffic_once_in(t, 400))
+        drive(t, traffic_below(t, 4));
+    if (traffic_once_in(t, 60))
+        drive(t, TRAFFIC_CALL);
+    if (traffic_once_in(t, 8))
+        drive(t, wanted);
+    drive(t, wanted);
+}
+
+/* SCL released with this SDA; while the clock is held the master waits, mostly until the handler is called. */
+static void clock_high(traffic *t, unsigned sda)
+{
+    level(t, SCL | sda);
+    while (t->left > 0 && t->held && !traffic_once_in(t, 40)) {
+        if (traffic_once_in(t, 2))
+            drive(t, TRAFFIC_CALL);
+        drive(t, traffic_once_in(t, 4) ? sda : SCL | sda);
+    }
+}
+
+/* ---- Bits, bytes, conditions ---- */
+
+/* One bit; now and then SDA changes with the edge or in the middle of the low time. */
+static void bit(traffic *t, unsigned sda)
+{
+    if (traffic_once_in(t, 6))
+        drive(t, traffic_below(t, 2));
+    if (!traffic_once_in(t, 6))
+        level(t, sda);
+    clock_high(t, sda);
+    level(t, traffic_once_in(t, 6) ? !sda : sda);
+}
+
+/* Start, from wherever the wire is: SDA up, SCL up, SDA down, SCL down. */
+static void start(traffic *t)
+{
+    level(t, SDA);
+    clock_high(t, SDA);
+    if (traffic_once_in(t, 10))
+        level(t, SCL);
+    level(t, SCL | SDA);
+    level(t, SCL);
+    if (traffic_once_in(t, 10)) {
+        level(t, SCL | SDA);
+        level(t, SCL);
+    }
+    level(t, traffic_once_in(t, 6) ? SDA : 0);
+}
+
+/* Stop: SDA down, SCL up, SDA up. */
+static void stop(traffic *t)
+{
+    level(t, 0);
+    clock_high(t, 0);
+    level(t, SCL | SDA);
+}
+
+/* A byte with its ninth slot, cut short now and then; answers whether it came to its end. */
+static int byte(traffic *t, unsigned value, unsigned ninth)
+{
+    int i;
+
+    for (i = 7; i >= 0; i--) {
+        if (traffic_once_in(t, 300))
+            return 0;
+        bit(t, (value >> i) & 1);
+    }
+    if (traffic_once_in(t, 100))
+        return 0;
+    bit(t, ninth);
+    return 1;
+}
+
+/* ---- Messages ---- */
+
+/* An address byte: mostly the device's, both directions; else the general call or any. */
+static unsigned some_address(traffic *t)
+{
+    unsigned pick = traffic_below(t, 10);
+
+    if (pick < 8)
+        return (t->add & 0xFEu) | (pick & 1);
+    return pick == 8 ? 0 : traffic_below(t, 256);
+}
+
+/* A pointer byte, mostly near the ends of the memory. */
+static unsigned some_pointer(traffic *t)
+{
+    unsigned pick = traffic_below(t, 4);
+
+    if (pick == 0)
+        return traffic_below(t, 256);
+    return pick == 1 ? 255 : (t->n - pick) & 0xFFu;
+}
+
+/* A message. */
+void traffic_message(traffic *t)
+{
+    unsigned address = some_address(t), length = traffic_below(t, 6), i;
+    int whole;
+
+    start(t);
+    whole = byte(t, address, 1);
+    for (i = 0; whole && i < length && t->left > 0; i++) {
+        if (address & 1)
+            whole = byte(t, 0xFF, i + 1 == length || traffic_once_in(t, 30));
+        else
+            whole = byte(t, i == 0 ? some_pointer(t) : traffic_below(t, 256), 1);
+    }
+    if (!traffic_once_in(t, 4))
+        stop(t);
+}
+
+/* Items without sense. */
+void traffic_noise(traffic *t)
+{
+    unsigned items = traffic_below(t, 60);
+
+    while (items-- > 0)
+        drive(t, traffic_once_in(t, 8) ? (unsigned)TRAFFIC_CALL : traffic_below(t, 4));
+}
