@@ -21,6 +21,8 @@ use Rattle.trace.specs.Run.{sampledBy}
 use Rattle.trace.specs.Window.{runInOf, Outcome as RunOutcome}
 use Rattle.finder.specs.declared.Found.{Found}
 use Rattle.finder.specs.Find.{spanOf, refusalOf, itemOf, startOf, lengthOf}
+use Rattle.view.specs.declared.View.{View}
+use Rattle.view.specs.View.{viewOf, noView}
 use Rattle.image.specs.Image.{imageLength, encodeOf, decodeOf}
 use Rattle.door.specs.declared.Part.{Part}
 use Rattle.door.specs.Outcome.{Outcome, outcome, Lent, lent, done, refused, settled, noState, byState}
@@ -69,6 +71,10 @@ ran bytes o = lent (settled (o .verdict) (o .item) (o .state) bytes) (o .buffer)
 abbrev pub doorRun : List ℕ → List ℕ → ℕ → ℕ → List ℕ → Lent
 doorRun bytes buffer start n items =
     byState (decodeOf bytes) (lent (noState bytes) buffer) (λ s. ran bytes (runInOf s buffer start n items))
+
+-- ---- what the scope draws: nothing changes
+abbrev pub doorLook : List ℕ → View
+doorLook bytes = byState (decodeOf bytes) noView viewOf
 
 -- ---- the message under the cursor: a refused call has the empty part at 0
 abbrev pub partOf : Found → Part

@@ -1,8 +1,8 @@
--- `door::draw` meets its contract.
+-- `view::draw` meets its contract.
 -- Assumes nothing.
 use borrow.Author.Needs.{needs}
-use Rattle.door.proofs.draw.Statement.{statement}
-use Rattle.door.proofs.draw.Tie as tie
+use Rattle.view.proofs.draw.Statement.{statement}
+use Rattle.view.proofs.draw.Tie as tie
 
 pub draw-spec : {M : Type 1} → statement M
 draw-spec =

@@ -3,7 +3,6 @@
 -- Assumes nothing.
 use Prim.Native.Nat.{ℕ}
 use mathlib.Core.Bool.{Bool, false}
-use mathlib.Core.List.{List}
 use mir.Val.{boolByte}
 use Rattle.refusals.specs.declared.Refusal.the-variants.{NoState}
 use Rattle.refusals.specs.Numbers.{numberOf}
@@ -17,9 +16,7 @@ use Rattle.registers.specs.declared.Register.the-variants.{Buf, Stat, Con1, Con
 use Rattle.registers.specs.Values.{valueOf}
 use Rattle.firmware.specs.declared.State.{State}
 use Rattle.module_image.specs.ModulePart.{phaseNumber, phaseCount, phaseByte, wireByte}
-use Rattle.image.specs.Image.{decodeOf}
-use Rattle.door.specs.declared.View.{View}
-use Rattle.door.specs.Outcome.{byState}
+use Rattle.view.specs.declared.View.{View}
 
 -- Only a hold before acknowledge is refused or not.
 abbrev pub refusedOf : Phase → Bool
@@ -85,6 +82,3 @@ noView =
       n = 0;
       pointer = 0;
     }
-
-abbrev pub doorLook : List ℕ → View
-doorLook bytes = byState (decodeOf bytes) noView viewOf
