@@ -1,0 +1,61 @@
+-- The report (01, "Report program"): from the bytes of the input to the bytes of the output.
+-- Assumes nothing.
+use Prim.Native.Nat.{ℕ, _+_}
+use mathlib.Core.Bool.{cond}
+use mathlib.Core.List.{List, [], _∷_, _++_}
+use lib.Dec.{ltb}
+use lib.ListN.{length}
+use Rattle.refusals.specs.declared.Refusal.the-variants.{NoItem}
+use Rattle.refusals.specs.Numbers.{numberOf}
+use Rattle.lines.specs.declared.Item.{Item}
+use Rattle.lines.specs.declared.Meaning.{Meaning}
+use Rattle.lines.specs.declared.Meaning.the-variants.{Skipped, Taken, Foreign}
+use Rattle.lines.specs.declared.World.{World}
+use Rattle.lines.specs.declared.Run.{Run}
+use Rattle.lines.specs.Input.{Parsed, all, foreign, parse}
+use Rattle.lines.specs.Watch.{Scene, sceneAfter, worldAfresh, memoryAfresh}
+use Rattle.lines.specs.Text.{said, decimal, lineOf, numbered}
+use Rattle.lines.specs.Page.{Page, page, penned}
+
+-- The lines of the items, numbered from `item` on; the pointer is that after the item.
+unfoldable pub linesFrom : World → List ℕ → ℕ → List Item → List ℕ
+linesFrom w memory item [] = []
+linesFrom w memory item (x ∷ xs) =
+    let s : Scene = sceneAfter w memory x in
+    lineOf item (s .watched .heard) (s .watched .world .state .handler .pointer)
+    ++ linesFrom (s .watched .world) (s .memory) (item + 1) xs
+
+abbrev pub header : List ℕ
+header = said "item event byte ack pointer\n"
+
+-- The header, a line for each event, and the number of items taken; or the refusal of the first foreign byte.
+abbrev pub parsedReport : Parsed → List ℕ
+parsedReport (all items) = header ++ (linesFrom worldAfresh memoryAfresh 0 items ++ numbered (said "end ") (length items))
+parsedReport (foreign n) = numbered (said "refused " ++ (decimal (numberOf NoItem) ++ said " at ")) n
+
+-- An input of more than 60,000 bytes is too long, before all else.
+unfoldable pub reportOf : List ℕ → List ℕ
+reportOf input = cond (ltb 60000 (length input)) (said "too long\n") (parsedReport (parse input))
+
+-- ---- the report as code goes through it, byte by byte
+abbrev pub runOf : World → ℕ → ℕ → Run
+runOf world item at = record { world = world; item = item; at = at }
+
+pub record Progress : Type 0 where
+  pub run : Run
+  pub memory : List ℕ
+  pub output : List ℕ
+
+abbrev pub progress : Run → List ℕ → List ℕ → Progress
+progress run memory output = record { run = run; memory = memory; output = output }
+
+abbrev pub itemPassed : Run → List ℕ → List ℕ → Item → Progress
+itemPassed run memory output x =
+    let s : Scene = sceneAfter (run .world) memory x in
+    let p : Page = penned (lineOf (run .item) (s .watched .heard) (s .watched .world .state .handler .pointer)) (page (run .at) output) in
+    progress (runOf (s .watched .world) (run .item + 1) (p .at)) (s .memory) (p .bytes)
+
+abbrev pub bytePassed : Run → List ℕ → List ℕ → Meaning → Progress
+bytePassed run memory output Skipped = progress run memory output
+bytePassed run memory output (Taken x) = itemPassed run memory output x
+bytePassed run memory output Foreign = progress run memory output

@@ -1,0 +1,30 @@
+-- The paper's example of a report (01, "Report program", and P5), an empty input, and what a line's pointer is.
+-- Assumes nothing.
+use Prim.Native.Nat.{ℕ}
+use mathlib.Core.Path.{_≡_, refl}
+use mathlib.Core.List.{List, []}
+use Rattle.plain.specs.declared.Heard.the-variants.{Silence}
+use Rattle.lines.specs.declared.Item.{Item}
+use Rattle.lines.specs.declared.Item.the-variants.{Sample, Call}
+use Rattle.lines.specs.declared.World.{World}
+use Rattle.lines.specs.Input.{parse}
+use Rattle.lines.specs.Watch.{sceneAfter}
+use Rattle.lines.specs.Text.{said, decimal}
+use Rattle.lines.specs.Report.{linesFrom, reportOf}
+
+pub worked :
+    reportOf (said "32 0202 1313 0202 0202 131h023")
+    ≡ said "item event byte ack pointer\n1 S -- - 0\n20 A 30 0 0\n24 P -- - 0\nend 25\n"
+unfolding reportOf parse linesFrom decimal
+worked = refl
+
+pub empty : reportOf [] ≡ said "item event byte ack pointer\nend 0\n"
+unfolding reportOf parse linesFrom decimal
+empty = refl
+
+-- Only a handler call moves the pointer, and it makes no event: at an event the pointer is the same before and after.
+pub pointer-at-event :
+    (w : World) (memory : List ℕ) (x : Item) → (sceneAfter w memory x .watched .heard ≡ Silence → ⊥)
+    → sceneAfter w memory x .watched .world .state .handler .pointer ≡ w .state .handler .pointer
+pointer-at-event w memory (Sample scl sda) h = refl
+pointer-at-event w memory Call h = absurd (h refl)
