@@ -1,0 +1,271 @@
+/* Goes through the step lists of the source documents by the door, and checks bits and phase at every numbered step. */
+#include "door.h"
+#include "sequences.h"
+
+#include <stdio.h>
+#include <stdlib.h>
+#include <string.h>
+
+enum { WORD = 16, TEXT = 128, SDA = 1, SCL = 2, RESERVED_BIT = 2 };
+
+/* A bit by its name: its register and its place in it; whether a step shows it. */
+typedef struct {
+    const char *name;
+    uint8_t number, mask, shown;
+} named_bit;
+
+static const named_bit named_bits[] = {
+    {"S", 1, 0x08, 1}, {"P", 1, 0x10, 1}, {"DA", 1, 0x20, 1}, {"RW", 1, 0x04, 1}, {"BF", 1, 0x01, 1},
+    {"WCOL", 2, 0x80, 1}, {"SSPOV", 2, 0x40, 1}, {"CKP", 2, 0x10, 1}, {"ACKTIM", 4, 0x80, 1},
+    {"ACKSTAT", 3, 0x40, 1}, {"SSPIF", 7, 0x01, 1},
+    {"SEN", 3, 0x01, 0}, {"ACKDT", 3, 0x20, 0}, {"GCEN", 3, 0x80, 0},
+    {"AHEN", 4, 0x02, 0}, {"DHEN", 4, 0x01, 0}, {"SCIE", 4, 0x20, 0}, {"PCIE", 4, 0x40, 0},
+};
+
+enum { NAMED_BITS = sizeof named_bits / sizeof named_bits[0], ROWS = sizeof rows / sizeof rows[0] };
+
+static uint8_t image[DOOR_IMAGE];
+static const char *sequence, *step;
+static unsigned long sequences, steps, failures;
+
+/* Tells what went wrong at which step. */
+static void fail(const char *what, const char *detail)
+{
+    failures++;
+    printf("%s, step %s: %s: %s\n", sequence, step, what, detail);
+}
+
+/* ---- Levels ---- */
+
+/* One sample; answers the wire after it. */
+static unsigned drive(unsigned level)
+{
+    if (door.sample(image, DOOR_IMAGE, (uint8_t)level).refusal != 0)
+        fail("refused", "a sample");
+    return door.look(image, DOOR_IMAGE).wire;
+}
+
+/* Samples written as digits. */
+static void levels(const char *digits)
+{
+    for (; *digits != '\0'; digits++)
+        (void)drive((unsigned)(*digits - '0'));
+}
+
+/* Eight clocks with these bits driven; answers the bits that were on the wire at the rises. */
+static unsigned clocks(unsigned value)
+{
+    unsigned seen = 0;
+    int i;
+
+    for (i = 7; i >= 0; i--) {
+        unsigned sda = (value >> i) & 1;
+
+        (void)drive(sda);
+        seen = seen << 1 | (drive(SCL | sda) & SDA);
+        (void)drive(sda);
+    }
+    return seen;
+}
+
+/* ---- Registers ---- */
+
+/* A register as it stands, without effect. */
+static unsigned reg(unsigned number)
+{
+    door_view v = door.look(image, DOOR_IMAGE);
+    const uint8_t registers[8] = {v.buf, v.stat, v.con1, v.con2, v.con3, v.add, v.msk, v.flag};
+
+    return registers[number];
+}
+
+/* A write and the refusal it must have, 0 for none. */
+static void put(unsigned number, unsigned value, unsigned refusal)
+{
+    if (door.write(image, DOOR_IMAGE, (uint8_t)number, (uint8_t)value).refusal != refusal)
+        fail("a write", refusal == 0 ? "refused" : "not refused as it should be");
+}
+
+/* Makes a named bit 1 or 0 by a write of its register. */
+static void put_bit(const char *name, int one, const char *word)
+{
+    size_t i;
+
+    for (i = 0; i < NAMED_BITS; i++) {
+        const named_bit *b = &named_bits[i];
+
+        if (strcmp(b->name, name) == 0) {
+            put(b->number, one ? reg(b->number) | b->mask : reg(b->number) & ~(unsigned)b->mask, 0);
+            return;
+        }
+    }
+    fail("no such bit", word);
+}
+
+/* w0=5A, r0=30 and no3=91. */
+static void access_word(const char *word)
+{
+    const char *equals = strchr(word, '=');
+    unsigned number = equals != NULL ? (unsigned)(equals[-1] - '0') : 9;
+    unsigned value = equals != NULL ? (unsigned)strtoul(equals + 1, NULL, 16) : 0;
+
+    if (number > 7)
+        fail("no such word", word);
+    else if (word[0] == 'w')
+        put(number, value, 0);
+    else if (word[0] == 'n')
+        put(number, value, RESERVED_BIT);
+    else if (door.read(image, DOOR_IMAGE, (uint8_t)number).value != value)
+        fail("another value was read", word);
+}
+
+/* ---- Steps ---- */
+
+/* The ninth clock and the wait; answers whether the word is one of theirs. */
+static int clock_word(const char *word)
+{
+    static unsigned ninth = SDA;
+
+    if (strcmp(word, "up") == 0 || strcmp(word, "up0") == 0) {
+        ninth = strcmp(word, "up") == 0 ? SDA : 0;
+        (void)drive(ninth);
+        (void)drive(SCL | ninth);
+    } else if (strcmp(word, "dn") == 0) {
+        (void)drive(ninth);
+    } else if (strcmp(word, "wait") == 0) {
+        if (drive(SCL | SDA) & SCL)
+            fail("the clock is not held", word);
+    } else {
+        return 0;
+    }
+    return 1;
+}
+
+/* One word of an action. */
+static void act(const char *word)
+{
+    unsigned value = (unsigned)strtoul(word + 1, NULL, 16);
+
+    if (strcmp(word, "S") == 0)
+        levels("32");
+    else if (strcmp(word, "R") == 0)
+        levels("132");
+    else if (strcmp(word, "P") == 0)
+        levels("023");
+    else if (word[0] == '=')
+        levels(word + 1);
+    else if (clock_word(word))
+        return;
+    else if (word[0] == '+' || word[0] == '-')
+        put_bit(word + 1, word[0] == '+', word);
+    else if (word[0] == 'b')
+        (void)clocks(value);
+    else if (word[0] == 'g') {
+        if (clocks(0xFF) != value)
+            fail("another byte was sent", word);
+    } else
+        access_word(word);
+}
+
+/* All words of an action. */
+static void act_all(const char *action)
+{
+    char word[WORD];
+    size_t length;
+
+    while (*action != '\0') {
+        length = strcspn(action, " ");
+        if (length >= WORD) {
+            fail("no such word", action);
+            return;
+        }
+        memcpy(word, action, length);
+        word[length] = '\0';
+        act(word);
+        action += length;
+        action += strspn(action, " ");
+    }
+}
+
+/* Whether a name is among the words of a list. */
+static int listed(const char *list, const char *name)
+{
+    size_t length = strlen(name);
+
+    while (*list != '\0') {
+        size_t word = strcspn(list, " ");
+
+        if (word == length && strncmp(list, name, length) == 0)
+            return 1;
+        list += word;
+        list += strspn(list, " ");
+    }
+    return 0;
+}
+
+/* The phase in words, with what it shows of the lines. */
+static const char *phase_name(const door_view *v)
+{
+    static const char *const names[8] = {"quiet", "address", "data", "held before acknowledge", "slot",
+                                         "held for sending", "sending", "master's acknowledge"};
+
+    if (v->phase == DOOR_DATA && v->scl_pulled)
+        return "data, held";
+    if (v->phase == DOOR_SLOT && v->sda_pulled)
+        return "slot, pulling";
+    return v->phase < 8 ? names[v->phase] : "no phase";
+}
+
+/* Every shown bit and the phase; a held phase pulls SCL and no other does. */
+static void check(const row *r)
+{
+    door_view v = door.look(image, DOOR_IMAGE);
+    const char *name = phase_name(&v);
+    int held = strncmp(name, "held", 4) == 0 || strcmp(name, "data, held") == 0;
+    size_t i;
+
+    for (i = 0; i < NAMED_BITS; i++) {
+        const named_bit *b = &named_bits[i];
+        int one = (reg(b->number) & b->mask) != 0;
+
+        if (b->shown && one != listed(r->bits, b->name))
+            fail(one ? "is 1 and should be 0" : "is 0 and should be 1", b->name);
+    }
+    if (strcmp(name, r->phase) != 0)
+        fail("another phase", name);
+    if (v.scl_pulled != held)
+        fail("SCL and the phase do not agree", name);
+}
+
+/* A sequence begins: a fresh state with ADD 30 and a free bus, then its settings. */
+static void begin(const row *r)
+{
+    sequence = r->name;
+    step = r->step;
+    sequences++;
+    if (door.setup(image, DOOR_IMAGE, 0x30, 32).refusal != 0)
+        fail("refused", "setup");
+    levels("3");
+    act_all(r->action);
+}
+
+/* Every row. */
+int main(void)
+{
+    size_t i;
+
+    for (i = 0; i < ROWS; i++) {
+        const row *r = &rows[i];
+
+        if (r->name != NULL) {
+            begin(r);
+            continue;
+        }
+        step = r->step;
+        steps++;
+        act_all(r->action);
+        check(r);
+    }
+    printf("sequences %lu steps %lu failures %lu\n", sequences, steps, failures);
+    return steps > 0 && failures == 0 ? 0 : 1;
+}
