@@ -1,0 +1,432 @@
+/* The fuzz target: bytes become calls through the door, and after each of them what the header promises is checked.
+
+   With FUZZ_ARCHIVE the archive and the second program get the same calls and must answer and leave the same; without it
+   the second program goes alone. */
+#include "step.h"
+
+#include <stdio.h>
+#include <stdlib.h>
+#include <string.h>
+
+enum { IMAGE = 48, LONGEST_IMAGE = 64, LONGEST_BUFFER = 300, LONGEST_BYTES = 4096, GUARD_BYTE = 0xA5, HANDLER_CALL = 4 };
+
+/* Lent memory is as long as it is said to be. Where address checking sees every access nothing stands around it; else, and
+   always around what the archive gets, there are guard bytes. */
+#if !defined(FUZZ_ARCHIVE) && defined(FUZZ_CHECKED)
+enum { GUARD = 0 };
+#else
+enum { GUARD = 16 };
+#endif
+
+/* The bytes that are left to be turned into calls. */
+typedef struct {
+    const uint8_t *data;
+    size_t left;
+} source;
+
+/* A program with its state and buffer, each longer than any length that is given. */
+typedef struct {
+    step_function *make;
+    uint8_t image[LONGEST_IMAGE];
+    uint8_t buffer[LONGEST_BUFFER];
+} program;
+
+int LLVMFuzzerTestOneInput(const uint8_t *data, size_t size);
+
+/* A broken promise ends the run. */
+static void promise(int kept, const char *what)
+{
+    if (!kept) {
+        fprintf(stderr, "broken: %s\n", what);
+        abort();
+    }
+}
+
+/* ---- From bytes to calls ---- */
+
+/* The next byte; 0 when there is none. */
+static uint8_t next(source *s)
+{
+    if (s->left == 0)
+        return 0;
+    s->left--;
+    return *s->data++;
+}
+
+/* Mostly one number, else a byte, else one where a sum or a narrowing would go wrong. */
+static uint64_t number(source *s, uint64_t usual)
+{
+    static const uint64_t odd[8] = {UINT64_MAX, UINT64_MAX - 31, UINT64_MAX - 255, (uint64_t)1 << 32,
+                                    ((uint64_t)1 << 32) + 32, (uint64_t)1 << 63, 256, 257};
+    uint8_t pick = next(s);
+
+    if (pick < 200)
+        return usual;
+    return pick < 240 ? next(s) : odd[pick % 8];
+}
+
+/* A length for the state: mostly 48. */
+static size_t state_length(source *s)
+{
+    uint8_t pick = next(s);
+
+    if (pick < 224)
+        return IMAGE;
+    return pick < 232 ? (size_t)pick - 224 : (size_t)pick - 192; /* 0 to 7, 40 to 63 */
+}
+
+/* A window: mostly inside its buffer and of the setup's length. */
+static void window(source *s, step *made, uint64_t n)
+{
+    uint8_t pick = next(s);
+
+    made->buffer_length = pick < 200 ? LONGEST_BUFFER : pick;
+    made->start = number(s, pick % 40);
+    made->n = number(s, n);
+}
+
+/* The eight bits and the ninth slot of a byte, then a handler call; SDA of the ninth slot released or not. */
+static size_t byte_items(uint8_t *items, unsigned value, unsigned ninth)
+{
+    size_t length = 0;
+    int i;
+
+    for (i = 8; i >= 0; i--) {
+        unsigned sda = i == 0 ? ninth : (value >> (i - 1)) & 1;
+
+        items[length++] = (uint8_t)sda;
+        items[length++] = (uint8_t)(2 + sda);
+    }
+    items[length++] = (uint8_t)ninth;
+    items[length++] = HANDLER_CALL;
+    return length;
+}
+
+/* A word of a message: a Start, a Stop, an address, a byte whole or cut short, or a handler call. */
+static size_t word_items(source *s, uint8_t *items)
+{
+    static const uint8_t start[3] = {1, 3, 2}, stop[3] = {0, 2, 3};
+    uint8_t pick = next(s);
+    unsigned high = pick >> 7;
+
+    switch (pick % 8) {
+    case 0:
+        memcpy(items, start, 3);
+        return 3;
+    case 1:
+        memcpy(items, stop, 3);
+        return 3;
+    case 2:
+        return byte_items(items, 0x30 + high, 1);
+    case 3:
+        (void)byte_items(items, 0x30 + high, 1);
+        return 17; /* up to and with the eighth fall */
+    case 4:
+        return byte_items(items, next(s), high) * (next(s) % 20u) / 20;
+    case 5:
+        items[0] = HANDLER_CALL;
+        return 1;
+    default:
+        return byte_items(items, next(s), high);
+    }
+}
+
+/* A trace of sense. */
+static size_t messages(source *s, uint8_t *items)
+{
+    size_t length = 0;
+    unsigned words = next(s) % 16;
+
+    while (words-- > 0)
+        length += word_items(s, items + length);
+    return length;
+}
+
+/* A trace or record from the bytes as they come, each below a limit unless it is meant to be bad. */
+static size_t raw(source *s, uint8_t *items, unsigned limit)
+{
+    size_t length = next(s), i;
+
+    for (i = 0; i < length; i++) {
+        uint8_t item = next(s);
+
+        items[i] = (uint8_t)(item < 248 ? item % limit : item < 252 ? limit : item);
+    }
+    return length;
+}
+
+/* A register access: mostly to a register that is there, with a value that is not refused. */
+static void register_access(source *s, step *made)
+{
+    static const uint8_t allowed[8] = {0xFF, 0xFF, 0xDF, 0xE1, 0xEF, 0xFF, 0xFF, 0xFF};
+    uint8_t pick = next(s);
+
+    made->number = (uint8_t)(pick < 224 ? pick % 8 : pick);
+    made->value = next(s);
+    if (pick < 192)
+        made->value &= allowed[made->number];
+    if (pick < 192 && made->number == 2)
+        made->value = (uint8_t)((made->value & 0xD8) | 0x26);
+}
+
+/* The next call. */
+static step next_step(source *s, const program *p, uint8_t *bytes)
+{
+    step made;
+    uint64_t n = (uint64_t)(p->image[16] | p->image[17] << 8);
+
+    memset(&made, 0, sizeof made);
+    made.which = next(s) % STEPS;
+    made.state_length = state_length(s);
+    made.bytes = bytes;
+    if (made.which == STEP_SETUP)
+        made.n = number(s, 1 + next(s) % 40u);
+    if (made.which == STEP_CALL || made.which == STEP_RUN)
+        window(s, &made, n);
+    if (made.which == STEP_RUN)
+        made.bytes_length = next(s) % 4 == 0 ? raw(s, bytes, 5) : messages(s, bytes);
+    if (made.which == STEP_FIND) {
+        made.bytes_length = raw(s, bytes, 4);
+        made.item = number(s, made.bytes_length == 0 ? 0 : next(s) % made.bytes_length);
+    }
+    if (made.which == STEP_READ || made.which == STEP_WRITE)
+        register_access(s, &made);
+    if (made.which == STEP_SETUP)
+        made.value = next(s) < 200 ? 0x30 : next(s);
+    if (made.which == STEP_SAMPLE)
+        made.value = (uint8_t)number(s, next(s) % 4);
+    return made;
+}
+
+/* ---- Lending ---- */
+
+/* Memory of exactly this length with these bytes, between guard bytes. */
+static uint8_t *lend(const uint8_t *bytes, size_t length)
+{
+    uint8_t *whole = malloc(length + 2 * GUARD + (GUARD == 0 && length == 0));
+
+    if (whole == NULL)
+        exit(2);
+    memset(whole, GUARD_BYTE, length + 2 * GUARD);
+    if (length > 0)
+        memcpy(whole + GUARD, bytes, length);
+    return whole + GUARD;
+}
+
+/* Takes it back; the guard bytes have to be there still. */
+static void take_back(uint8_t *lent, uint8_t *bytes, size_t length)
+{
+    uint8_t *whole = lent - GUARD;
+    size_t i;
+
+    for (i = GUARD; i > 0; i--)
+        promise(whole[i - 1] == GUARD_BYTE && lent[length + i - 1] == GUARD_BYTE, "a byte outside the lent memory");
+    if (bytes != NULL && length > 0)
+        memcpy(bytes, lent, length);
+    free(whole);
+}
+
+/* Makes a call with everything lent. */
+static outcome make(program *p, const step *s)
+{
+    uint8_t *image = lend(p->image, s->state_length);
+    uint8_t *buffer = lend(p->buffer, s->buffer_length);
+    uint8_t *bytes = lend(s->bytes, s->bytes_length);
+    step lent = *s;
+    outcome o;
+
+    lent.bytes = bytes;
+    o = p->make(&lent, image, buffer);
+    promise(s->bytes_length == 0 || memcmp(bytes, s->bytes, s->bytes_length) == 0, "trace and record are only read");
+    take_back(image, p->image, s->state_length);
+    take_back(buffer, p->buffer, s->buffer_length);
+    take_back(bytes, NULL, s->bytes_length);
+    return o;
+}
+
+/* ---- Promises ---- */
+
+/* Which refusals each function can have, a bit for each. */
+static const unsigned refusals[STEPS] = {
+    1u << 6 | 1u << 5, 1u << 6 | 1u << 1, 1u << 6 | 1u << 1 | 1u << 2 | 1u << 3, 1u << 6 | 1u << 4,
+    1u << 6 | 1u << 5, 1u << 6 | 1u << 5 | 1u << 4, 1u << 6, 1u << 4 | 1u << 7
+};
+
+/* The number of the first byte above a limit, or the length. */
+static size_t first_above(const uint8_t *bytes, size_t length, unsigned limit)
+{
+    size_t i = 0;
+
+    while (i < length && bytes[i] <= limit)
+        i++;
+    return i;
+}
+
+/* What an answer may say. */
+static void check_answer(const step *s, const outcome *o)
+{
+    unsigned highest = s->which == STEP_FIND ? 3 : 4;
+    int named = o->refusal == 4 && (s->which == STEP_RUN || s->which == STEP_FIND);
+    int i;
+
+    promise(o->refusal < 8 && (o->refusal == 0 || (refusals[s->which] >> o->refusal & 1)), "no refusal of this function");
+    promise(o->value == 0 || (s->which == STEP_READ && o->refusal == 0 && o->value < 256), "a value where there is none");
+    if (named)
+        promise(o->item < s->bytes_length && o->item == first_above(s->bytes, s->bytes_length, highest), "first bad item");
+    else
+        promise(o->item == 0, "an item where there is none");
+    for (i = 0; i < SEEN && o->refusal != 0; i++)
+        promise(o->seen[i] == 0, "fields after a refusal");
+    if (s->state_length != IMAGE && s->which != STEP_FIND)
+        promise(o->refusal == 6, "an image of another length is none");
+}
+
+/* A refusal leaves all, a look and a find too; the handler leaves what is outside its window. */
+static void check_kept(const program *before, const program *after, const step *s, const outcome *o)
+{
+    int changes = o->refusal == 0 && s->which < STEP_LOOK;
+    int stores = changes && (s->which == STEP_CALL || s->which == STEP_RUN);
+    size_t i;
+
+    if (!changes)
+        promise(memcmp(before->image, after->image, LONGEST_IMAGE) == 0, "a state that should have stayed");
+    promise(memcmp(before->image + IMAGE, after->image + IMAGE, LONGEST_IMAGE - IMAGE) == 0, "bytes behind the state");
+    for (i = 0; i < LONGEST_BUFFER; i++)
+        if (!stores || i < s->start || i >= s->start + s->n)
+            promise(before->buffer[i] == after->buffer[i], "a buffer byte that should have stayed");
+}
+
+/* The part lies in the record; it has the item in it, or is empty at the item. */
+static void check_part(const step *s, const outcome *o)
+{
+    uint64_t start = o->seen[0], length = o->seen[1];
+
+    if (s->which != STEP_FIND || o->refusal != 0)
+        return;
+    promise(start <= s->bytes_length && length <= s->bytes_length - start, "a part outside the record");
+    promise(length == 0 ? start == s->item : s->item >= start && s->item - start < length, "a part without the item");
+}
+
+/* After a call that was made the state is a state. */
+static void check_state(program *p, const step *s, const outcome *o)
+{
+    step look;
+
+    if (o->refusal != 0 || s->which >= STEP_LOOK)
+        return;
+    memset(&look, 0, sizeof look);
+    look.which = STEP_LOOK;
+    look.state_length = IMAGE;
+    promise(make(p, &look).refusal == 0, "a state after a call that was made");
+}
+
+/* A run is its items one by one. */
+static void check_run(const program *before, const program *after, const step *s, const outcome *o)
+{
+    program single = *before;
+    size_t i;
+
+    if (s->which != STEP_RUN || o->refusal != 0)
+        return;
+    for (i = 0; i < s->bytes_length; i++) {
+        step one = *s;
+
+        one.which = s->bytes[i] == HANDLER_CALL ? STEP_CALL : STEP_SAMPLE;
+        one.value = s->bytes[i];
+        one.bytes_length = 0;
+        promise(make(&single, &one).refusal == 0, "an item of a run by itself");
+    }
+    promise(memcmp(single.image, after->image, LONGEST_IMAGE) == 0, "the state after a run and after its items");
+    promise(memcmp(single.buffer, after->buffer, LONGEST_BUFFER) == 0, "the buffer after a run and after its items");
+}
+
+/* A call on one program with everything that is promised of it. */
+static outcome made_well(program *p, const step *s)
+{
+    program before = *p;
+    outcome o = make(p, s);
+
+    check_answer(s, &o);
+    check_kept(&before, p, s, &o);
+    check_part(s, &o);
+    check_state(p, s, &o);
+    check_run(&before, p, s, &o);
+    return o;
+}
+
+/* ---- The target ---- */
+
+/* Now and then the image is not what a call left: bits or bytes of it, or all of it, come from the input. */
+static void disturb(source *s, program *p)
+{
+    uint8_t pick = next(s);
+    size_t i;
+
+    if (pick >= 250) {
+        for (i = 0; i < IMAGE; i++)
+            p->image[i] = next(s);
+    } else if (pick >= 192) {
+        uint8_t place = (uint8_t)(next(s) % 24), bits = next(s);
+
+        p->image[place] = pick % 2 == 0 ? bits : (uint8_t)(p->image[place] ^ 1u << bits % 8);
+    }
+}
+
+/* A program with a fresh state and a zero buffer. */
+static void fresh(program *p, step_function *make_step)
+{
+    step setup;
+
+    memset(p, 0, sizeof *p);
+    p->make = make_step;
+    memset(&setup, 0, sizeof setup);
+    setup.which = STEP_SETUP;
+    setup.state_length = IMAGE;
+    setup.value = 0x30;
+    setup.n = 32;
+    promise(made_well(p, &setup).refusal == 0, "setup");
+}
+
+/* One call on every program there is; they have to agree. */
+static outcome made_by_all(program *first, program *other, const step *s)
+{
+    outcome o;
+#ifdef FUZZ_ARCHIVE
+    outcome beside;
+
+    memcpy(other->image, first->image, LONGEST_IMAGE);
+    beside = made_well(other, s);
+    o = made_well(first, s);
+    promise(memcmp(&o, &beside, sizeof o) == 0, "archive and second program answer the same");
+    promise(memcmp(first->image, other->image, LONGEST_IMAGE) == 0, "archive and second program leave the same state");
+    promise(memcmp(first->buffer, other->buffer, LONGEST_BUFFER) == 0, "archive and second program store the same");
+#else
+    (void)other;
+    o = made_well(first, s);
+#endif
+    return o;
+}
+
+/* All calls of one input; an image that was no state is put back after the call that it was refused by. */
+int LLVMFuzzerTestOneInput(const uint8_t *data, size_t size)
+{
+    static uint8_t bytes[LONGEST_BYTES];
+    source s = {data, size};
+    program first, other;
+
+    fresh(&first, second_step);
+#ifdef FUZZ_ARCHIVE
+    fresh(&other, wherryoar_step);
+#endif
+    while (s.left > 0) {
+        uint8_t good[LONGEST_IMAGE];
+        step made;
+
+        memcpy(good, first.image, LONGEST_IMAGE);
+        disturb(&s, &first);
+        made = next_step(&s, &first, bytes);
+        if (made_by_all(&first, &other, &made).refusal == 6)
+            memcpy(first.image, good, LONGEST_IMAGE);
+    }
+    return 0;
+}

@@ -1,0 +1,36 @@
+/* One call through a door, said without the door's own types, so that two programs can be put side by side. */
+#ifndef STEP_H
+#define STEP_H
+
+#include <stddef.h>
+#include <stdint.h>
+
+/* Which of the eight functions. */
+enum { STEP_SETUP, STEP_READ, STEP_WRITE, STEP_SAMPLE, STEP_CALL, STEP_RUN, STEP_LOOK, STEP_FIND, STEPS };
+
+/* What it is called with; each function takes what it knows. */
+typedef struct {
+    int which;
+    size_t state_length;
+    uint8_t number, value; /* setup: value is ADD; sample: value is the level */
+    size_t buffer_length;
+    uint64_t start, n;     /* setup: n */
+    const uint8_t *bytes;  /* a trace or a record */
+    size_t bytes_length;
+    uint64_t item;         /* find */
+} step;
+
+/* What it answered; a part's start and length, or a view's fields, follow refusal, value and item. */
+enum { SEEN = 22 };
+
+typedef struct {
+    uint64_t refusal, value, item;
+    uint64_t seen[SEEN];
+} outcome;
+
+/* Makes the call on this image and buffer. */
+typedef outcome step_function(const step *s, uint8_t *image, uint8_t *buffer);
+
+step_function second_step, wherryoar_step;
+
+#endif
