@@ -1,0 +1,165 @@
+#!/bin/sh
+# Runs the tests that look from outside: captures and step lists of the source documents, the plain reader on cut records and
+# beside sigrok, the converters, fuzzing, and our C under sanitizers. The last line counts.
+#
+# ARCHIVE and REPORT name the archive and the report program, if they are not where the gate puts them.
+set -u
+cd "$(dirname "$0")/.." || exit 2
+. tools/machine.sh
+passed=0
+failed=0
+out=$(pwd)/target/outside
+rm -rf "$out"
+mkdir -p "$out/captures" "$out/wires" "$out/sigrok" "$out/inputs"
+export PYTHONDONTWRITEBYTECODE=1
+export ASAN_OPTIONS=detect_leaks=0 # a leak check takes seconds a process on some machines; it is on where memory is allocated
+
+try() { # try NAME COMMAND..
+    name=$1
+    from=$(date +%s)
+    shift
+    if "$@" >"$out/$name.log" 2>&1; then
+        passed=$((passed + 1))
+        echo "test $name: passed ($(($(date +%s) - from)) s) $(tail -n 1 "$out/$name.log")"
+    else
+        failed=$((failed + 1))
+        echo "test $name: FAILED"
+        tail -n 20 "$out/$name.log"
+    fi
+}
+
+# ---- What is needed: what cannot be had fails, it is not passed over ----
+
+archive=${ARCHIVE:-target/staticlib/libdoor.a}
+report=${REPORT:-target/bin/report}
+run_report=$RUN # the report program wants a C library: elsewhere than on x86-64 the cross compiler's
+[ -z "$RUN" ] || run_report="$RUN -L /usr/x86_64-linux-gnu"
+[ -f "$archive" ] || try archive rt staticlib door
+[ -f "$report" ] || try report_program rt check report
+for wanted in "python3 python3" "gcc gcc" "clang clang" "sigrok-cli sigrok-cli"; do
+    need $wanted || try "needed_${wanted%% *}" false
+done
+fuzzer_at_hand() { # the fuzzer's library is a package of its own
+    echo 'int LLVMFuzzerTestOneInput(const unsigned char *d, unsigned long n) { return d && n > 8 ? 0 : 0; }' >"$out/probe.c"
+    link_probe() { clang -fsanitize=fuzzer,address,undefined -o "$out/probe" "$out/probe.c"; }
+    link_probe || { DEBIAN_FRONTEND=noninteractive apt-get install -y -qq libclang-rt-dev && link_probe; }
+}
+fuzzer_at_hand >/dev/null 2>&1 || try needed_fuzzer fuzzer_at_hand
+
+# ---- Building: with the archive, with the second program for the same machine, and natively with sanitizers ----
+
+strict="-std=c99 -Wall -Wextra -Wpedantic -Werror -Itests -Itests/second -Itests/fuzz"
+door="-Iinclude -DDOOR_PREFIX=wherryoar_ -DDOOR_HEADER=\"wherryoar.h\""
+checked="-g -O1 -fsanitize=address,undefined -fno-sanitize-recover=undefined -DFUZZ_CHECKED"
+second=tests/second/second.c
+plain=tests/second/plain.c
+
+build_all() {
+    for program in capture sequences; do
+        $CC_ARCHIVE $strict $door -O2 -o "$out/$program" tests/$program.c $plain "$archive" || return 1
+    done
+    for program in wirebytes cut; do
+        gcc $strict -O2 -o "$out/$program" tests/$program.c $plain || return 1
+    done
+    for program in capture sequences; do
+        gcc $strict -O2 -o "$out/second_$program" tests/$program.c $second $plain || return 1
+    done
+    $CC_ARCHIVE $strict $door -O2 -c -o "$out/step_archive.o" tests/fuzz/step.c || return 1
+    $CC_ARCHIVE $strict -DFUZZ_ARCHIVE -O2 -o "$out/door_corpus" tests/fuzz/door_fuzz.c tests/fuzz/corpus_main.c \
+        tests/fuzz/step.c $second "$out/step_archive.o" "$archive"
+}
+try build build_all
+
+build_checked() {
+    for program in replay agree checks sequences capture cut wirebytes; do
+        gcc $strict $checked -o "$out/checked_$program" tests/$program.c $second $plain || return 1
+    done
+    gcc $strict $checked -o "$out/checked_corpus" tests/fuzz/door_fuzz.c tests/fuzz/corpus_main.c tests/fuzz/step.c $second
+}
+try build_checked build_checked
+
+# ---- Step lists and captures ----
+
+try sequences $RUN "$out/sequences"
+try second_sequences "$out/second_sequences"
+
+try captures python3 tests/captures.py "$out/captures"
+same_reports() { # same_reports COMMAND..: the report of each capture, which the command reads from standard input
+    count=0
+    for capture in "$out"/captures/*.txt; do
+        "$@" <"$capture" >"$out/report" || return 1
+        diff "$out/report" "tests/captures/$(basename "$capture" .txt).report" || return 1
+        count=$((count + 1))
+    done
+    echo "captures $count"
+}
+try captures_report same_reports $run_report "$report"
+try captures_archive same_reports $RUN "$out/capture" report -
+try captures_second same_reports "$out/second_capture" report -
+
+same_wires() { # the wire record of each capture, by the archive and by the second program
+    for capture in "$out"/captures/*.txt; do
+        wire="$out/wires/$(basename "$capture" .txt).bin"
+        $RUN "$out/capture" wire "$capture" >"$wire" || return 1
+        "$out/second_capture" wire "$capture" | cmp - "$wire" || return 1
+    done
+}
+try captures_wires same_wires
+try cuts "$out/cut" "$out"/wires/*.bin
+
+# ---- sigrok ----
+
+try sigrok_whole python3 tests/sigrok_agree.py whole "$out/wirebytes" "$out"/wires/*.bin
+try sigrok_cuts python3 tests/sigrok_agree.py cuts "$out/wirebytes" "$out/sigrok" "$out/wires/brief_combined.bin"
+try sigrok_listed python3 tests/sigrok_agree.py listed "$out/wirebytes" "$out/sigrok"
+try sigrok_random python3 tests/sigrok_agree.py random "$out/wirebytes" "$out/sigrok" 300000
+dd if="$out/sigrok/random.bin" of="$out/sigrok/random_part.bin" bs=40000 count=1 2>/dev/null
+try cuts_random "$out/cut" "$out/sigrok/random_part.bin"
+
+# ---- Converters ----
+
+try convert python3 tests/convert_test.py "$out/convert" "$out"/wires/brief_*.bin "$out"/wires/bench_4.bin
+
+# ---- Fuzzing ----
+
+try fuzz_inputs python3 tests/fuzz/report_inputs.py "$out/inputs"
+same_as_report() { # what the report program prints for each input, beside the second program's report
+    count=0
+    for input in tests/fuzz/corpus/report/* "$out"/inputs/*; do
+        $run_report "$report" <"$input" >"$out/report" || return 1
+        "$out/second_capture" report "$input" | cmp - "$out/report" || { echo "$input"; return 1; }
+        count=$((count + 1))
+    done
+    echo "inputs $count"
+}
+try fuzz_report same_as_report
+try fuzz_corpus $RUN "$out/door_corpus" 20000 tests/fuzz/corpus/door/*
+try fuzz_corpus_checked env ASAN_OPTIONS=detect_leaks=1 "$out/checked_corpus" 2000 tests/fuzz/corpus/door/*
+
+# The fuzzer itself runs natively: with the archive on x86-64, and everywhere with the second program.
+fuzz() { # fuzz SECONDS NAME SOURCES-AND-OPTIONS..
+    seconds=$1
+    target=$2
+    shift 2
+    clang $strict $checked -fsanitize=fuzzer -o "$out/$target" tests/fuzz/door_fuzz.c tests/fuzz/step.c $second "$@" || return 1
+    mkdir -p "$out/$target.found"
+    (cd "$out" && "./$target" -seed=1 -max_len=300 -max_total_time="$seconds" "$target.found" "$OLDPWD/tests/fuzz/corpus/door")
+}
+try fuzz_second fuzz 5 fuzz_second
+if [ -z "$RUN" ]; then
+    try fuzz_archive fuzz 20 fuzz_archive -DFUZZ_ARCHIVE "$out/step_archive.o" "$archive"
+fi
+
+# ---- Sanitizers ----
+
+try checked_replay "$out/checked_replay" tests/vectors/base.txt
+try checked_agree "$out/checked_agree" 40000
+try checked_checks "$out/checked_checks"
+try checked_sequences "$out/checked_sequences"
+try checked_captures same_reports "$out/checked_capture" report -
+try checked_cut "$out/checked_cut" "$out"/wires/brief_*.bin
+try checked_wirebytes "$out/checked_wirebytes" "$out/sigrok/random.bin"
+try checked_wirebytes_s "$out/checked_wirebytes" -s "$out/sigrok/random.bin"
+
+echo "$passed passed, $failed failed"
+[ "$failed" -eq 0 ]
