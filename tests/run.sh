@@ -104,6 +104,19 @@ lanes() {
 try installed installed
 try lanes lanes
 
+# The report program on its stored cases, byte for byte; a case too long and dull to store is printed by a script.
+text_of() { # text_of NAME.in or NAME.out
+    if [ -f "tests/report/$1" ]; then cat "tests/report/$1"; else sh "tests/report/$1.sh"; fi
+}
+report_case() { # report_case NAME
+    text_of "$1.in" >"$out/report.in" && text_of "$1.out" >"$out/report.expected" &&
+        $RUN_PROGRAM target/bin/report <"$out/report.in" >"$out/report.out" && cmp "$out/report.out" "$out/report.expected"
+}
+[ -x target/bin/report ] || try report_program rt check report
+for name in $(ls tests/report | sed -n 's/\.in\(\.sh\)\{0,1\}$//p' | sort -u); do
+    try "report_$name" report_case "$name"
+done
+
 # What the archive costs.
 try stack tools/stack.sh
 try bench bench/run.sh

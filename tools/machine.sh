@@ -1,5 +1,5 @@
 # Sourced by the scripts: how C is compiled and run beside the archive, which is x86-64 whatever this machine is.
-# Sets CC_ARCHIVE, CXX_ARCHIVE, NM, OBJDUMP and RUN, and installs what is missing (Debian packages).
+# Sets CC_ARCHIVE, CXX_ARCHIVE, NM, OBJDUMP, RUN (for what they make) and RUN_PROGRAM (for the report program), and installs what is missing (Debian packages).
 need() { # need COMMAND PACKAGE
     command -v "$1" >/dev/null 2>&1 && return 0
     echo "installing $2 for $1"
@@ -14,12 +14,13 @@ need rt rattle-toolchain 2>/dev/null || { echo "the Rattle toolchain (rt) is not
 case $(uname -m) in
 x86_64)
     need gcc gcc && need g++ g++ || exit 2
-    CC_ARCHIVE="gcc" CXX_ARCHIVE="g++" NM="nm" OBJDUMP="objdump" RUN=""
+    CC_ARCHIVE="gcc" CXX_ARCHIVE="g++" NM="nm" OBJDUMP="objdump" RUN="" RUN_PROGRAM=""
     ;;
 *)
     need x86_64-linux-gnu-gcc gcc-x86-64-linux-gnu && need x86_64-linux-gnu-g++ g++-x86-64-linux-gnu || exit 2
     need qemu-x86_64 qemu-user || exit 2
     CC_ARCHIVE="x86_64-linux-gnu-gcc -static" CXX_ARCHIVE="x86_64-linux-gnu-g++ -static" RUN="qemu-x86_64"
     NM="x86_64-linux-gnu-nm" OBJDUMP="x86_64-linux-gnu-objdump"
+    RUN_PROGRAM="qemu-x86_64 -L /usr/x86_64-linux-gnu"
     ;;
 esac

@@ -82,9 +82,9 @@ pub extern "C" fn wherryoar_read(state: &mut [u8], number: u8) -> Answer
         Decoded::Valid(s) => {
             let m = s.mssp;
             let access = registers::read(m, number);
-            let next = access.mssp;
+            let left = access.mssp;
             let verdict = access.verdict;
-            settle(state, verdict, 0, State { mssp: next, ..s })
+            settle(state, verdict, 0, State { mssp: left, ..s })
         }
     }
 }
