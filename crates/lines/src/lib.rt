@@ -240,7 +240,16 @@ fn put_row(output: &mut [u8], at: usize, item: usize, row: Row, pointer: u16) ->
     requires { ⌜ (item < 100000) × (at + 19 < 2 ^ 64) ⌝ }
     ensures { λ r. ⌜ page r (now (output .exit)) ≡ penned (rowLine item row pointer) (page at (now (output .entry))) ⌝ }
 {
-    let middle = [b' ', row.event, b' ', row.high, row.low, b' ', row.ack, b' '];
+    let middle = [
+        b' ',
+        row.event,
+        b' ',
+        row.high,
+        row.low,
+        b' ',
+        row.ack,
+        b' ',
+    ];
     let after_item = put_decimal(output, at, item);
     let after_row = put_all(output, after_item, &middle);
     let after_pointer = put_decimal(output, after_row, pointer as usize);
@@ -257,7 +266,13 @@ fn put_event(output: &mut [u8], at: usize, item: usize, heard: Heard, pointer: u
         Heard::Silence => at,
         Heard::Started => put_row(output, at, item, condition_row(b'S'), pointer),
         Heard::Stopped => put_row(output, at, item, condition_row(b'P'), pointer),
-        Heard::Byte(first, byte, level) => put_row(output, at, item, byte_row(first, byte, level), pointer),
+        Heard::Byte(first, byte, level) => put_row(
+            output,
+            at,
+            item,
+            byte_row(first, byte, level),
+            pointer,
+        ),
     }
 }
 

@@ -36,10 +36,10 @@ pub +put-decimal-spec : {M : Type 1} → statement M
     (λ c. omega arith)
     (λ c. omega arith)
     (λ c κs.
-      let d = c .before .before .before in
-      let k = number-room _ _ (d .put-decimal .ensures) (d .before .before .before .before .pre .1 .0) in
-      omega arith)
+    let d = c .before .before .before in
+    let k = number-room _ _ (d .put-decimal .ensures) (d .before .before .before .before .pre .1 .0) in
+    omega arith)
     (λ c. c .before .before .put2 .kept .0 ∙ c .before .before .before .before .before .before .put-decimal .kept .0)
     (λ c.
-      let d = c .before .before .before .before .before .before in
-      number-more _ _ (d .put-decimal .ensures) (d .before .before .if1 .left) (c .before .before .put2 .ensures))
+    let d = c .before .before .before .before .before .before in
+    number-more _ _ (d .put-decimal .ensures) (d .before .before .if1 .left) (c .before .before .put2 .ensures))
