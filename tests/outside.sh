@@ -32,8 +32,7 @@ try() { # try NAME COMMAND..
 
 archive=${ARCHIVE:-target/staticlib/libdoor.a}
 report=${REPORT:-target/bin/report}
-run_report=$RUN # the report program wants a C library: elsewhere than on x86-64 the cross compiler's
-run_report=$RUN_PROGRAM
+run_report=$RUN_PROGRAM # the report program wants a C library: elsewhere than on x86-64 the cross compiler's
 [ -f "$archive" ] || try archive rt staticlib door
 [ -f "$report" ] || try report_program rt check report
 for wanted in "python3 python3" "gcc gcc" "clang clang" "sigrok-cli sigrok-cli"; do
