@@ -1,0 +1,42 @@
+-- `stretch::sending` meets its contract: the loop is a walk.
+-- Assumes nothing.
+use borrow.Author.Needs.{needs}
+use Prim.Native.Nat.{_-_}
+use mathlib.Core.Path.{ap₂}
+use native.Mathlib.Omega.{arith}
+use lib.ListN.{length}
+use Rattle.stretch.specs.Walk.{Walking, walk-begins, walk-on, walk-stops, walk-out}
+use Rattle.stretch.specs.Stretch.{sendingStops, sendingGoes, sentOf}
+use Rattle.stretch.specs.Laws.{no-level, by-level}
+use Rattle.stretch.proofs.sending.Statement.{statement}
+use Rattle.stretch.proofs.sending.Tie as tie
+
+abbrev Inv-loop : tie.InvT-loop
+Inv-loop byte first items place₀ w₀ i₀ place w i = Walking (sendingStops byte) (sendingGoes byte) items (place₀, w₀) i (place, w)
+
+abbrev μ-loop : tie.MeasureT-loop
+μ-loop byte first items place₀ w₀ i₀ place w i = length items - i
+
+pub sending-spec : {M : Type 1} → statement M
+sending-spec =
+    tie.close
+    (tie.spec
+    Inv-loop
+    μ-loop
+    (λ c. walk-begins)
+    (λ c. omega arith)
+    (λ c. walk-stops sentOf (c .before .before .before .loop .inv) (c .before .before .loop-test .taken) (no-level _ _ (c .if1 .taken)))
+    (λ c κs. search needs)
+    (λ c κs. search needs)
+    (λ c.
+      walk-stops sentOf (c .before .before .before .before .before .before .loop .inv) (c .before .before .before .before .before .loop-test .taken)
+      (by-level _ (c .before .before .before .if1 .left) (rw (c .before .before .is-zero-at .ensures) at (c .before .is-end .ensures)) (c .if2 .taken)))
+    (λ c κs. search needs)
+    (λ c κs. search needs)
+    (λ c. omega arith)
+    (λ c. omega arith)
+    (λ c.
+      walk-on (c .before .before .before .before .before .before .before .before .loop .inv) (c .before .before .before .before .before .before .before .loop-test .taken)
+      (by-level _ (c .before .before .before .before .before .if1 .left) (rw (c .before .before .before .before .is-zero-at .ensures) at (c .before .before .before .is-end .ensures)) (c .before .before .if2 .left))
+      (ap₂ (λ x y. (x, y)) (c .before .place-at .ensures) (rw (c .before .before .before .before .is-zero-at .ensures) at (c .see-on .ensures))))
+    (λ c. walk-out sentOf (c .before .loop .inv) (c .loop-test .left)))

@@ -1,0 +1,5 @@
+pub mod Walk
+pub mod Seen
+pub mod Stretch
+pub mod Laws
+pub mod Sampled

@@ -1,0 +1,159 @@
+-- Every item of a stretch is a sample that leaves all flags as they are: what the stretch says of phase and line is what
+-- the rules say.
+-- Assumes nothing.
+use Prim.Native.Nat.{ℕ, _+_, _%_, _<_}
+use mathlib.Core.Path.{_≡_, refl, sym, ap, ap₂, _∙_}
+use mathlib.Core.Bool.{Bool, true, false, cond, _||_}
+use native.Mathlib.Omega.{arith}
+use lib.Dec.{ltb, leb}
+use borrow.Author.Tests.{lt-ltb, leb-false, ltb-false}
+use Rattle.truth.specs.Tests.{never}
+use Rattle.wire.specs.declared.Bits.{Bits}
+use Rattle.wire.specs.declared.Edge.{Edge}
+use Rattle.wire.specs.declared.Edge.the-variants.{Rise, Fall}
+use Rattle.wire.specs.Byte.{pushed, whole}
+use Rattle.wire.specs.Wire.{sclOf, sdaOf, onWire}
+use Rattle.mssp.specs.declared.Config.{Config}
+use Rattle.mssp.specs.declared.Live.{Live}
+use Rattle.mssp.specs.declared.Phase.{Phase}
+use Rattle.mssp.specs.declared.Phase.the-variants.{Quiet, Address, Data, HeldBefore, Slot, HeldForSending, Sending, MasterAcknowledge}
+use Rattle.mssp.specs.declared.Module.{Module}
+use Rattle.mssp.specs.Module.{moduleOf, setACKTIM}
+use Rattle.mssp.specs.Drivers.{sclPulled, sdaPulled}
+use Rattle.sampling.specs.declared.Moved.{Moved}
+use Rattle.sampling.specs.Rules.{_at_, addressFallIf, dataFallIf, bitSentIf, edgeStep, seenIf, sampled}
+use Rattle.stretch.specs.declared.Seen.{Seen}
+use Rattle.stretch.specs.Seen.{lineOf, seenOn, ends, takenAt, placeAt}
+use Rattle.stretch.specs.Stretch.{takingStops, takingGoes, sendingStops, sendingGoes, restingStops, restingGoes}
+
+-- A module whose line is a wire that was seen.
+abbrev pub placed : Config → Live → Phase → Seen → Module
+placed c l ph w = moduleOf c l ph (lineOf w)
+
+-- Where an edge leads a phase that goes on to up at a rise and to down at a fall.
+abbrev phaseBy : Phase → Phase → Phase → Bool → Bool → Phase
+phaseBy ph up down before scl = cond before (cond scl ph down) (cond scl up ph)
+
+-- An edge that does not end the stretch moves the phase and no flag.
+module _ (c : Config) (l : Live) (ph : Phase) (rise fall : Bool) (up : Bool → Phase) (down : Phase) (rises : rise ≡ false → (sda : Bool) → edgeStep c l ph (Rise sda) ≡ l at up sda) (falls : fall ≡ false → edgeStep c l ph Fall ≡ l at down) where
+  module _ (mark : Bool) where
+    abbrev before : Bool → Bool → Seen
+    before scl sda = record { scl = scl; sda = sda; mark = mark }
+
+    abbrev Goes : Bool → Bool → Bool → Bool → Type 0
+    Goes scl₀ sda₀ scl sda =
+        ends (before scl₀ sda₀) scl sda rise fall ≡ false
+        → seenIf true (placed c l ph (before scl₀ sda₀)) scl sda
+        ≡ placed c l (phaseBy ph (up sda) down scl₀ scl) (seenOn (before scl₀ sda₀) scl sda)
+
+  -- SCL stays high.
+  high : (mark sda₀ sda : Bool) → Goes mark true sda₀ true sda
+  high true sda₀ sda h = refl
+  high false true true h = refl
+  high false false false h = refl
+  high false true false h = never (sym h)
+  high false false true h = never (sym h)
+
+  goes : (mark scl₀ sda₀ scl sda : Bool) → Goes mark scl₀ sda₀ scl sda
+  goes mark true sda₀ true sda h = high mark sda₀ sda h
+  goes mark true sda₀ false sda h = ap (λ (n : Moved). moduleOf c (n .live) (n .phase) (lineOf (seenOn (before mark true sda₀) false sda))) (falls h)
+  goes true false sda₀ true sda h = ap (λ (n : Moved). moduleOf c (n .live) (n .phase) (lineOf (seenOn (before true false sda₀) true sda))) (rises h sda)
+  goes false false sda₀ true sda h = ap (λ (n : Moved). moduleOf c (n .live) (n .phase) (lineOf (seenOn (before false false sda₀) true sda))) (rises h sda)
+  goes mark false sda₀ false sda h = refl
+
+-- ---- the three kinds of stretch
+-- An item that does not end a stretch is a level, and does not end it as one.
+level-goes : (item : ℕ) {b : Bool} → ltb 3 item || b ≡ false → (item < 4) × (b ≡ false)
+level-goes item {b} h = by (ltb 3 item) refl
+  where
+    by : (t : Bool) → ltb 3 item ≡ t → (item < 4) × (b ≡ false)
+    by true e = never (sym (sym (ap (λ (t : Bool). t || b) e) ∙ h))
+    by false e = let k = ltb-false 3 item e in (omega arith, sym (ap (λ (t : Bool). t || b) e) ∙ h)
+
+taken-phase :
+    (ph : Bits → Phase) (b : Bits) (scl₀ scl sda : Bool)
+    → phaseBy (ph b) (ph (pushed b sda)) (ph b) scl₀ scl ≡ ph (cond scl₀ b (cond scl (pushed b sda) b))
+taken-phase ph b true true sda = refl
+taken-phase ph b true false sda = refl
+taken-phase ph b false true sda = refl
+taken-phase ph b false false sda = refl
+
+-- Below the last place the remainder changes nothing.
+sent-phase :
+    (byte place : ℕ) (w : Seen) (scl sda : Bool) → ends w scl sda false (leb 7 place) ≡ false
+    → phaseBy (Sending byte place) (Sending byte place) (Sending byte (place + 1)) (w .scl) scl ≡ Sending byte (placeAt place w scl)
+sent-phase byte place w scl sda h = by (w .scl) scl h
+  where
+    by :
+        (scl₀ scl : Bool) → ends (record { scl = scl₀; sda = w .sda; mark = w .mark }) scl sda false (leb 7 place) ≡ false
+        → phaseBy (Sending byte place) (Sending byte place) (Sending byte (place + 1)) scl₀ scl
+        ≡ Sending byte (cond scl₀ (cond scl place (place % 8 + 1)) place)
+    by true true h = refl
+    by true false h = let k = leb-false 7 place h in ap (λ (x : ℕ). Sending byte x) (omega arith)
+    by false true h = refl
+    by false false h = refl
+
+rested-phase : (ph : Phase) (scl₀ scl : Bool) → phaseBy ph ph ph scl₀ scl ≡ ph
+rested-phase ph true true = refl
+rested-phase ph true false = refl
+rested-phase ph false true = refl
+rested-phase ph false false = refl
+
+module _ (c : Config) (enabled : c .sspen ≡ true) (l : Live) where
+  -- A stretch goes over an item: it is a level, and the sample leaves the module where the stretch does.
+  abbrev pub Sampled : Phase → Seen → ℕ → Phase → Seen → Type 0
+  Sampled ph w item ph′ w′ = (item < 4) × (sampled (placed c l ph w) (sclOf item) (sdaOf item) ≡ placed c l ph′ w′)
+
+  pub address-goes :
+      (p : Bits × Seen) (item : ℕ) → takingStops p item ≡ false
+      → Sampled (Address (p .0)) (p .1) item (Address (takingGoes p item .0)) (takingGoes p item .1)
+  address-goes p item h =
+      let b : Bits = p .0 in let w : Seen = p .1 in
+      let k = level-goes item h in (
+        k .0,
+        ap (λ (t : Bool). seenIf t (placed c l (Address b) w) (sclOf item) (sdaOf item)) enabled
+        ∙ goes c l (Address b) false (whole b) (λ (sda : Bool). Address (pushed b sda)) (Address b) (λ e sda. refl)
+        (λ e. ap (λ (t : Bool). addressFallIf t c l b) e) (w .mark) (w .scl) (w .sda) (sclOf item) (sdaOf item) (k .1)
+        ∙ ap (λ (ph : Phase). placed c l ph (takingGoes p item .1)) (taken-phase (λ (x : Bits). Address x) b (w .scl) (sclOf item) (sdaOf item)),
+      )
+
+  pub data-goes :
+      (p : Bits × Seen) (item : ℕ) → takingStops p item ≡ false
+      → Sampled (Data (p .0) false) (p .1) item (Data (takingGoes p item .0) false) (takingGoes p item .1)
+  data-goes p item h =
+      let b : Bits = p .0 in let w : Seen = p .1 in
+      let k = level-goes item h in (
+        k .0,
+        ap (λ (t : Bool). seenIf t (placed c l (Data b false) w) (sclOf item) (sdaOf item)) enabled
+        ∙ goes c l (Data b false) false (whole b) (λ (sda : Bool). Data (pushed b sda) false) (Data b false) (λ e sda. refl)
+        (λ e. ap (λ (t : Bool). dataFallIf t c l b false) e) (w .mark) (w .scl) (w .sda) (sclOf item) (sdaOf item) (k .1)
+        ∙ ap (λ (ph : Phase). placed c l ph (takingGoes p item .1)) (taken-phase (λ (x : Bits). Data x false) b (w .scl) (sclOf item) (sdaOf item)),
+      )
+
+  pub sending-goes :
+      (byte : ℕ) (p : ℕ × Seen) (item : ℕ) → sendingStops byte p item ≡ false
+      → Sampled (Sending byte (p .0)) (p .1) item (Sending byte (sendingGoes byte p item .0)) (sendingGoes byte p item .1)
+  sending-goes byte p item h =
+      let place : ℕ = p .0 in let w : Seen = p .1 in
+      let sda : Bool = onWire (sdaPulled (Sending byte place)) (sdaOf item) in
+      let k = level-goes item h in (
+        k .0,
+        ap (λ (t : Bool). seenIf t (placed c l (Sending byte place) w) (sclOf item) sda) enabled
+        ∙ goes c l (Sending byte place) false (leb 7 place) (λ (x : Bool). Sending byte place) (Sending byte (place + 1)) (λ e x. refl)
+        (λ e. ap (λ (t : Bool). bitSentIf t l byte place) (lt-ltb place 7 (leb-false 7 place e))) (w .mark) (w .scl) (w .sda) (sclOf item) sda (k .1)
+        ∙ ap (λ (ph : Phase). placed c l ph (sendingGoes byte p item .1)) (sent-phase byte place w (sclOf item) sda (k .1)),
+      )
+
+  rest-goes :
+      (ph : Phase) (rise fall : Bool) → (rise ≡ false → (sda : Bool) → edgeStep c l ph (Rise sda) ≡ l at ph)
+      → (fall ≡ false → edgeStep c l ph Fall ≡ l at ph) → (w : Seen) (item : ℕ)
+      → restingStops (sclPulled ph) (sdaPulled ph) rise fall w item ≡ false
+      → Sampled ph w item ph (restingGoes (sclPulled ph) (sdaPulled ph) w item)
+  rest-goes ph rise fall rises falls w item h =
+      let scl : Bool = onWire (sclPulled ph) (sclOf item) in let sda : Bool = onWire (sdaPulled ph) (sdaOf item) in
+      let k = level-goes item h in (
+        k .0,
+        ap (λ (t : Bool). seenIf t (placed c l ph w) scl sda) enabled
+        ∙ goes c l ph rise fall (λ (x : Bool). ph) ph rises falls (w .mark) (w .scl) (w .sda) scl sda (k .1)
+        ∙ ap (λ (x : Phase). placed c l x (seenOn w scl sda)) (rested-phase ph (w .scl) scl),
+      )

@@ -1,0 +1,107 @@
+-- Stretches: how far a module goes before an item that a rule has to see, and where that leaves it.
+-- Assumes nothing.
+use Prim.Native.Nat.{ℕ}
+use mathlib.Core.Bool.{Bool, true, false, cond, _||_, not}
+use mathlib.Core.List.{List}
+use lib.Dec.{ltb, leb}
+use Rattle.wire.specs.declared.Bits.{Bits}
+use Rattle.wire.specs.declared.Line.{Line}
+use Rattle.wire.specs.declared.Remembered.{Remembered}
+use Rattle.wire.specs.declared.Remembered.the-variants.{Nothing, Wire}
+use Rattle.wire.specs.Byte.{whole, zeroAt}
+use Rattle.wire.specs.Wire.{sclOf, sdaOf, onWire}
+use Rattle.mssp.specs.declared.Phase.{Phase}
+use Rattle.mssp.specs.declared.Phase.the-variants.{Quiet, Address, Data, HeldBefore, Slot, HeldForSending, Sending, MasterAcknowledge}
+use Rattle.mssp.specs.declared.Module.{Module}
+use Rattle.stretch.specs.declared.Seen.{Seen}
+use Rattle.stretch.specs.declared.Taken.{Taken}
+use Rattle.stretch.specs.declared.Sent.{Sent}
+use Rattle.stretch.specs.declared.Rested.{Rested}
+use Rattle.stretch.specs.declared.Stretch.{Stretch}
+use Rattle.stretch.specs.Walk.{walked, steps}
+use Rattle.stretch.specs.Seen.{lineOf, seenOn, ends, takenAt, placeAt}
+
+-- ---- an address or data: a byte's last fall ends the stretch
+abbrev pub takingStops : Bits × Seen → ℕ → Bool
+takingStops p item = ltb 3 item || ends (p .1) (sclOf item) (sdaOf item) false (whole (p .0))
+
+abbrev pub takingGoes : Bits × Seen → ℕ → Bits × Seen
+takingGoes p item = (takenAt (p .0) (p .1) (sclOf item) (sdaOf item), seenOn (p .1) (sclOf item) (sdaOf item))
+
+abbrev pub takenOf : Bits × Seen → ℕ → Taken
+takenOf p length = record { bits = p .0; wire = p .1; length = length }
+
+abbrev pub takingOf : Bits → Seen → List ℕ → Taken
+takingOf bits w items = takenOf (walked takingStops takingGoes (bits, w) items) (steps takingStops takingGoes (bits, w) items)
+
+-- ---- a byte that is sent: its last fall ends the stretch
+abbrev pub sentLevel : ℕ → ℕ → ℕ → Bool
+sentLevel byte place item = onWire (zeroAt byte place) (sdaOf item)
+
+abbrev pub sendingStops : ℕ → ℕ × Seen → ℕ → Bool
+sendingStops byte p item = ltb 3 item || ends (p .1) (sclOf item) (sentLevel byte (p .0) item) false (leb 7 (p .0))
+
+abbrev pub sendingGoes : ℕ → ℕ × Seen → ℕ → ℕ × Seen
+sendingGoes byte p item =
+    (placeAt (p .0) (p .1) (sclOf item), seenOn (p .1) (sclOf item) (sentLevel byte (p .0) item))
+
+abbrev pub sentOf : ℕ × Seen → ℕ → Sent
+sentOf p length = record { place = p .0; wire = p .1; length = length }
+
+abbrev pub sendingOf : ℕ → ℕ → Seen → List ℕ → Sent
+sendingOf byte place w items =
+    sentOf (walked (sendingStops byte) (sendingGoes byte) (place, w) items) (steps (sendingStops byte) (sendingGoes byte) (place, w) items)
+
+-- ---- any other phase: what it pulls, and whether it has a rule for a rise and for a fall
+abbrev pub restingStops : Bool → Bool → Bool → Bool → Seen → ℕ → Bool
+restingStops holds pulls rise fall w item =
+    ltb 3 item || ends w (onWire holds (sclOf item)) (onWire pulls (sdaOf item)) rise fall
+
+abbrev pub restingGoes : Bool → Bool → Seen → ℕ → Seen
+restingGoes holds pulls w item = seenOn w (onWire holds (sclOf item)) (onWire pulls (sdaOf item))
+
+abbrev pub restedOf : Seen → ℕ → Rested
+restedOf w length = record { wire = w; length = length }
+
+abbrev pub restingOf : Bool → Bool → Bool → Bool → Seen → List ℕ → Rested
+restingOf holds pulls rise fall w items =
+    restedOf (walked (restingStops holds pulls rise fall) (restingGoes holds pulls) w items)
+    (steps (restingStops holds pulls rise fall) (restingGoes holds pulls) w items)
+
+-- ---- the module
+abbrev pub stretchAt : Phase → Line → ℕ → Stretch
+stretchAt ph line length = record { phase = ph; line = line; length = length }
+
+abbrev pub endedAt : Phase → Seen → ℕ → Stretch
+endedAt ph w length = stretchAt ph (lineOf w) length
+
+abbrev pub restOf : Phase → Bool → Bool → Bool → Bool → Seen → List ℕ → Stretch
+restOf ph holds pulls rise fall w items =
+    let r : Rested = restingOf holds pulls rise fall w items in
+    endedAt ph (r .wire) (r .length)
+
+abbrev pub takeOf : (Bits → Phase) → Bits → Seen → List ℕ → Stretch
+takeOf ph bits w items = let r : Taken = takingOf bits w items in endedAt (ph (r .bits)) (r .wire) (r .length)
+
+-- The slot has a rule for its rise only while ACKTIM stands.
+abbrev pub phaseStretch : Phase → Bool → Seen → List ℕ → Stretch
+phaseStretch Quiet acktim w items = restOf Quiet false false false false w items
+phaseStretch (Address bits) acktim w items = takeOf (λ b. Address b) bits w items
+phaseStretch (Data bits true) acktim w items = restOf (Data bits true) true false false (whole bits) w items
+phaseStretch (Data bits false) acktim w items = takeOf (λ b. Data b false) bits w items
+phaseStretch (HeldBefore refused) acktim w items = restOf (HeldBefore refused) true false false false w items
+phaseStretch (Slot pulling) acktim w items = restOf (Slot pulling) false pulling acktim true w items
+phaseStretch HeldForSending acktim w items = restOf HeldForSending true false false false w items
+phaseStretch (Sending byte place) acktim w items =
+    let r : Sent = sendingOf byte place w items in endedAt (Sending byte (r .place)) (r .wire) (r .length)
+phaseStretch MasterAcknowledge acktim w items = restOf MasterAcknowledge false false true true w items
+
+-- Before any level was seen, and disabled, there is no stretch.
+abbrev pub stretchFrom : Bool → Remembered → Line → Phase → Bool → List ℕ → Stretch
+stretchFrom sspen Nothing line ph acktim items = stretchAt ph line 0
+stretchFrom true (Wire scl sda) line ph acktim items =
+    phaseStretch ph acktim (record { scl = scl; sda = sda; mark = line .mark }) items
+stretchFrom false (Wire scl sda) line ph acktim items = stretchAt ph line 0
+
+abbrev pub stretchOf : Module → List ℕ → Stretch
+stretchOf m items = stretchFrom (m .config .sspen) (m .line .remembered) (m .line) (m .phase) (m .live .acktim) items
