@@ -112,9 +112,9 @@ module _ (c : Config) (enabled : c .sspen ≡ true) (l : Live) where
       let k = level-goes item h in (
         k .0,
         ap (λ (t : Bool). seenIf t (placed c l (Address b) w) (sclOf item) (sdaOf item)) enabled
-        ∙ goes c l (Address b) false (whole b) (λ (sda : Bool). Address (pushed b sda)) (Address b) (λ e sda. refl)
-        (λ e. ap (λ (t : Bool). addressFallIf t c l b) e) (w .mark) (w .scl) (w .sda) (sclOf item) (sdaOf item) (k .1)
-        ∙ ap (λ (ph : Phase). placed c l ph (takingGoes p item .1)) (taken-phase (λ (x : Bits). Address x) b (w .scl) (sclOf item) (sdaOf item)),
+            ∙ goes c l (Address b) false (whole b) (λ (sda : Bool). Address (pushed b sda)) (Address b) (λ e sda. refl)
+            (λ e. ap (λ (t : Bool). addressFallIf t c l b) e) (w .mark) (w .scl) (w .sda) (sclOf item) (sdaOf item) (k .1)
+            ∙ ap (λ (ph : Phase). placed c l ph (takingGoes p item .1)) (taken-phase (λ (x : Bits). Address x) b (w .scl) (sclOf item) (sdaOf item)),
       )
 
   pub data-goes :
@@ -125,9 +125,9 @@ module _ (c : Config) (enabled : c .sspen ≡ true) (l : Live) where
       let k = level-goes item h in (
         k .0,
         ap (λ (t : Bool). seenIf t (placed c l (Data b false) w) (sclOf item) (sdaOf item)) enabled
-        ∙ goes c l (Data b false) false (whole b) (λ (sda : Bool). Data (pushed b sda) false) (Data b false) (λ e sda. refl)
-        (λ e. ap (λ (t : Bool). dataFallIf t c l b false) e) (w .mark) (w .scl) (w .sda) (sclOf item) (sdaOf item) (k .1)
-        ∙ ap (λ (ph : Phase). placed c l ph (takingGoes p item .1)) (taken-phase (λ (x : Bits). Data x false) b (w .scl) (sclOf item) (sdaOf item)),
+            ∙ goes c l (Data b false) false (whole b) (λ (sda : Bool). Data (pushed b sda) false) (Data b false) (λ e sda. refl)
+            (λ e. ap (λ (t : Bool). dataFallIf t c l b false) e) (w .mark) (w .scl) (w .sda) (sclOf item) (sdaOf item) (k .1)
+            ∙ ap (λ (ph : Phase). placed c l ph (takingGoes p item .1)) (taken-phase (λ (x : Bits). Data x false) b (w .scl) (sclOf item) (sdaOf item)),
       )
 
   pub sending-goes :
@@ -139,9 +139,9 @@ module _ (c : Config) (enabled : c .sspen ≡ true) (l : Live) where
       let k = level-goes item h in (
         k .0,
         ap (λ (t : Bool). seenIf t (placed c l (Sending byte place) w) (sclOf item) sda) enabled
-        ∙ goes c l (Sending byte place) false (leb 7 place) (λ (x : Bool). Sending byte place) (Sending byte (place + 1)) (λ e x. refl)
-        (λ e. ap (λ (t : Bool). bitSentIf t l byte place) (lt-ltb place 7 (leb-false 7 place e))) (w .mark) (w .scl) (w .sda) (sclOf item) sda (k .1)
-        ∙ ap (λ (ph : Phase). placed c l ph (sendingGoes byte p item .1)) (sent-phase byte place w (sclOf item) sda (k .1)),
+            ∙ goes c l (Sending byte place) false (leb 7 place) (λ (x : Bool). Sending byte place) (Sending byte (place + 1)) (λ e x. refl)
+            (λ e. ap (λ (t : Bool). bitSentIf t l byte place) (lt-ltb place 7 (leb-false 7 place e))) (w .mark) (w .scl) (w .sda) (sclOf item) sda (k .1)
+            ∙ ap (λ (ph : Phase). placed c l ph (sendingGoes byte p item .1)) (sent-phase byte place w (sclOf item) sda (k .1)),
       )
 
   rest-goes :
@@ -154,6 +154,6 @@ module _ (c : Config) (enabled : c .sspen ≡ true) (l : Live) where
       let k = level-goes item h in (
         k .0,
         ap (λ (t : Bool). seenIf t (placed c l ph w) scl sda) enabled
-        ∙ goes c l ph rise fall (λ (x : Bool). ph) ph rises falls (w .mark) (w .scl) (w .sda) scl sda (k .1)
-        ∙ ap (λ (x : Phase). placed c l x (seenOn w scl sda)) (rested-phase ph (w .scl) scl),
+            ∙ goes c l ph rise fall (λ (x : Bool). ph) ph rises falls (w .mark) (w .scl) (w .sda) scl sda (k .1)
+            ∙ ap (λ (x : Phase). placed c l x (seenOn w scl sda)) (rested-phase ph (w .scl) scl),
       )

@@ -5,7 +5,6 @@ use mathlib.Core.Bool.{Bool, true, false, cond, _||_, not}
 use mathlib.Core.List.{List}
 use lib.Dec.{ltb, leb}
 use Rattle.wire.specs.declared.Bits.{Bits}
-use Rattle.wire.specs.declared.Line.{Line}
 use Rattle.wire.specs.declared.Remembered.{Remembered}
 use Rattle.wire.specs.declared.Remembered.the-variants.{Nothing, Wire}
 use Rattle.wire.specs.Byte.{whole, zeroAt}
@@ -19,7 +18,7 @@ use Rattle.stretch.specs.declared.Sent.{Sent}
 use Rattle.stretch.specs.declared.Rested.{Rested}
 use Rattle.stretch.specs.declared.Stretch.{Stretch}
 use Rattle.stretch.specs.Walk.{walked, steps}
-use Rattle.stretch.specs.Seen.{lineOf, seenOn, ends, takenAt, placeAt}
+use Rattle.stretch.specs.Seen.{seenOn, ends, takenAt, placeAt}
 
 -- ---- an address or data: a byte's last fall ends the stretch
 abbrev pub takingStops : Bits × Seen → ℕ → Bool
@@ -69,19 +68,16 @@ restingOf holds pulls rise fall w items =
     (steps (restingStops holds pulls rise fall) (restingGoes holds pulls) w items)
 
 -- ---- the module
-abbrev pub stretchAt : Phase → Line → ℕ → Stretch
-stretchAt ph line length = record { phase = ph; line = line; length = length }
-
-abbrev pub endedAt : Phase → Seen → ℕ → Stretch
-endedAt ph w length = stretchAt ph (lineOf w) length
+abbrev pub stretchAt : Phase → Seen → ℕ → Stretch
+stretchAt ph w length = record { phase = ph; wire = w; length = length }
 
 abbrev pub restOf : Phase → Bool → Bool → Bool → Bool → Seen → List ℕ → Stretch
 restOf ph holds pulls rise fall w items =
     let r : Rested = restingOf holds pulls rise fall w items in
-    endedAt ph (r .wire) (r .length)
+    stretchAt ph (r .wire) (r .length)
 
 abbrev pub takeOf : (Bits → Phase) → Bits → Seen → List ℕ → Stretch
-takeOf ph bits w items = let r : Taken = takingOf bits w items in endedAt (ph (r .bits)) (r .wire) (r .length)
+takeOf ph bits w items = let r : Taken = takingOf bits w items in stretchAt (ph (r .bits)) (r .wire) (r .length)
 
 -- The slot has a rule for its rise only while ACKTIM stands.
 abbrev pub phaseStretch : Phase → Bool → Seen → List ℕ → Stretch
@@ -93,15 +89,15 @@ phaseStretch (HeldBefore refused) acktim w items = restOf (HeldBefore refused) t
 phaseStretch (Slot pulling) acktim w items = restOf (Slot pulling) false pulling acktim true w items
 phaseStretch HeldForSending acktim w items = restOf HeldForSending true false false false w items
 phaseStretch (Sending byte place) acktim w items =
-    let r : Sent = sendingOf byte place w items in endedAt (Sending byte (r .place)) (r .wire) (r .length)
+    let r : Sent = sendingOf byte place w items in stretchAt (Sending byte (r .place)) (r .wire) (r .length)
 phaseStretch MasterAcknowledge acktim w items = restOf MasterAcknowledge false false true true w items
 
 -- Before any level was seen, and disabled, there is no stretch.
-abbrev pub stretchFrom : Bool → Remembered → Line → Phase → Bool → List ℕ → Stretch
-stretchFrom sspen Nothing line ph acktim items = stretchAt ph line 0
-stretchFrom true (Wire scl sda) line ph acktim items =
-    phaseStretch ph acktim (record { scl = scl; sda = sda; mark = line .mark }) items
-stretchFrom false (Wire scl sda) line ph acktim items = stretchAt ph line 0
+abbrev pub stretchFrom : Bool → Remembered → Bool → Phase → Bool → List ℕ → Stretch
+stretchFrom sspen Nothing mark ph acktim items = stretchAt ph (record { scl = false; sda = false; mark = mark }) 0
+stretchFrom true (Wire scl sda) mark ph acktim items =
+    phaseStretch ph acktim (record { scl = scl; sda = sda; mark = mark }) items
+stretchFrom false (Wire scl sda) mark ph acktim items = stretchAt ph (record { scl = scl; sda = sda; mark = mark }) 0
 
 abbrev pub stretchOf : Module → List ℕ → Stretch
-stretchOf m items = stretchFrom (m .config .sspen) (m .line .remembered) (m .line) (m .phase) (m .live .acktim) items
+stretchOf m items = stretchFrom (m .config .sspen) (m .line .remembered) (m .line .mark) (m .phase) (m .live .acktim) items

@@ -1,8 +1,8 @@
 // A stretch: samples that move nothing but the bits so far and the wire remembered. A run takes them in small loops and
 // leaves every other sample to the rules.
 ghost use mathlib.Core.Path.{_≡_};
-ghost use Rattle.stretch.specs.Seen.{seenOn, ends, takenAt, placeAt};
-ghost use Rattle.stretch.specs.Stretch.{takingOf, sendingOf, restingOf, endedAt, restOf, phaseStretch, stretchOf};
+ghost use Rattle.stretch.specs.Seen.{lineOf, seenOn, ends, takenAt, placeAt};
+ghost use Rattle.stretch.specs.Stretch.{takingOf, sendingOf, restingOf, stretchAt, restOf, phaseStretch, stretchOf};
 use mssp::Module;
 use mssp::Phase;
 use wire::Bits;
@@ -39,7 +39,7 @@ pub struct Rested {
 // Where a stretch leaves the module, and of how many items it is.
 pub struct Stretch {
     pub phase: Phase,
-    pub line: Line,
+    pub wire: Seen,
     pub length: usize,
 }
 
@@ -181,14 +181,11 @@ pub fn resting(holds: bool, pulls: bool, rise: bool, fall: bool, from: Seen, ite
 }
 
 fn ended(phase: Phase, w: Seen, length: usize) -> Stretch
-    ensures { λ r. ⌜ r ≡ endedAt phase w length ⌝ }
+    ensures { λ r. ⌜ r ≡ stretchAt phase w length ⌝ }
 {
     Stretch {
         phase: phase,
-        line: Line {
-            remembered: Remembered::Wire(w.scl, w.sda),
-            mark: w.mark,
-        },
+        wire: w,
         length: length,
     }
 }
@@ -242,6 +239,16 @@ pub fn in_phase(phase: Phase, acktim: bool, w: Seen, items: &[u8]) -> Stretch
     }
 }
 
+// The wire of a line that remembers one.
+pub fn line_of(w: Seen) -> Line
+    ensures { λ r. ⌜ r ≡ lineOf w ⌝ }
+{
+    Line {
+        remembered: Remembered::Wire(w.scl, w.sda),
+        mark: w.mark,
+    }
+}
+
 // The stretch ahead. Disabled, or before any level was seen, there is none.
 pub fn ahead(m: Module, items: &[u8]) -> Stretch
     ensures { λ r. ⌜ r ≡ stretchOf m (now (items .entry)) ⌝ }
@@ -250,25 +257,24 @@ pub fn ahead(m: Module, items: &[u8]) -> Stretch
     let line = m.line;
     let remembered = line.remembered;
     match remembered {
-        Remembered::Nothing => Stretch {
-            phase: phase,
-            line: line,
-            length: 0,
-        },
+        Remembered::Nothing => {
+            let w = Seen {
+                scl: false,
+                sda: false,
+                mark: line.mark,
+            };
+            ended(phase, w, 0)
+        }
         Remembered::Wire(scl, sda) => {
+            let w = Seen {
+                scl: scl,
+                sda: sda,
+                mark: line.mark,
+            };
             if m.config.sspen {
-                let w = Seen {
-                    scl: scl,
-                    sda: sda,
-                    mark: line.mark,
-                };
                 return in_phase(phase, m.live.acktim, w, items);
             }
-            Stretch {
-                phase: phase,
-                line: line,
-                length: 0,
-            }
+            ended(phase, w, 0)
         }
     }
 }

@@ -5,7 +5,10 @@ use mathlib.Core.Bool.{Bool, true, false}
 use mathlib.Core.List.{List, [], _∷_}
 use lib.Dec.{eqb, ltb}
 use Rattle.items.specs.First.{firstAbove}
+use Rattle.wire.specs.declared.Line.{Line}
 use Rattle.wire.specs.Wire.{sclOf, sdaOf}
+use Rattle.mssp.specs.declared.Phase.{Phase}
+use Rattle.mssp.specs.Module.{moduleOf}
 use Rattle.sampling.specs.Rules.{sampled}
 use Rattle.firmware.specs.declared.State.{State}
 use Rattle.firmware.specs.Handler.{Served, served, stateOf, called}
@@ -17,6 +20,10 @@ firstBad items = firstAbove 4 items
 -- A sample moves the module; the handler's variables stay.
 abbrev pub sampledBy : State → ℕ → State
 sampledBy s level = stateOf (sampled (s .mssp) (sclOf level) (sdaOf level)) (s .handler)
+
+-- The module moves on to another phase and line.
+abbrev pub movedOn : State → Phase → Line → State
+movedOn s ph line = stateOf (moduleOf (s .mssp .config) (s .mssp .live) ph line) (s .handler)
 
 -- One item: a sample, a handler call, or, where the byte is neither, nothing.
 abbrev pub stepIf : Bool → Bool → State → List ℕ → ℕ → Served

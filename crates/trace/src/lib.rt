@@ -3,11 +3,14 @@ ghost use mathlib.Core.Path.{_≡_};
 ghost use Prim.Native.Nat.{_+_, _≤_};
 ghost use lib.ListN.{length};
 ghost use Rattle.firmware.specs.Handler.{served};
-ghost use Rattle.trace.specs.Run.{sampledBy, stepOf, runOf};
+ghost use Rattle.trace.specs.Run.{sampledBy, movedOn, runOf};
 ghost use Rattle.trace.specs.Window.{ranIn, outcome, runInOf};
 use firmware::State;
+use mssp::Module;
+use mssp::Phase;
 use refusals::Refusal;
 use refusals::Verdict;
+use wire::Line;
 
 // What a run answers: the verdict, beside refusal 4 the first bad item's number, and the state after it.
 pub struct Ran {
@@ -29,28 +32,41 @@ pub fn sample(s: State, level: u8) -> State
     }
 }
 
-// One item. A byte that is none changes nothing.
-pub fn step(s: State, window: &mut [u8], item: u8) -> State
-    ensures { λ r. ⌜ served r (now (window .exit)) ≡ stepOf s (now (window .entry)) item ⌝ }
+// A state with another phase and line.
+fn move_on(s: State, phase: Phase, line: Line) -> State
+    ensures { λ r. ⌜ r ≡ movedOn s phase line ⌝ }
 {
-    if item < 4 {
-        return sample(s, item);
-    }
-    if item == 4 {
-        return firmware::handle(s, window);
-    }
-    s
+    let m = s.mssp;
+    let next = Module {
+        phase: phase,
+        line: line,
+        ..m
+    };
+    State { mssp: next, ..s }
 }
 
-// All the items, in their order.
+// All the items, in their order. After each item that a rule has to see comes the stretch that it begins.
 pub fn run(s: State, window: &mut [u8], items: &[u8]) -> State
     ensures { λ r. ⌜ served r (now (window .exit)) ≡ runOf s (now (window .entry)) (now (items .entry)) ⌝ }
 {
     let mut t = s;
     let mut i = 0;
     while i < items.len() {
-        t = step(t, window, items[i]);
+        let item = items[i];
+        if item < 4 {
+            t = sample(t, item);
+        } else {
+            if item == 4 {
+                t = firmware::handle(t, window);
+            }
+        }
         i += 1;
+        let m = t.mssp;
+        let ahead = stretch::ahead(m, &items[i..]);
+        let phase = ahead.phase;
+        let line = ahead.line;
+        t = move_on(t, phase, line);
+        i += ahead.length;
     }
     t
 }

@@ -9,8 +9,10 @@ ahead-spec =
     tie.close
     (tie.spec
     (λ c. search needs)
+    (λ c κs. search needs)
     (λ c. search needs)
     (λ c κs. search needs)
     (λ c. simp (c .before .before .before .remembered .given .1, c .before .if1 .taken, c .in-phase .ensures))
-    (λ c. simp (c .enum-told .given .1))
-    (λ c. simp (c .before .before .remembered .given .1, c .if1 .left)))
+    (λ c κs. search needs)
+    (λ c. simp (c .before .enum-told .given .1, c .ended .ensures))
+    (λ c. simp (c .before .before .before .remembered .given .1, c .before .if1 .left, c .ended2 .ensures)))

@@ -28,15 +28,15 @@ resting-spec =
     (λ c. walk-stops restedOf (c .before .before .before .loop .inv) (c .before .before .loop-test .taken) (no-level _ _ (c .if1 .taken)))
     (λ c κs. search needs)
     (λ c.
-      let l = c .before .before .before .before .before in
-      walk-stops restedOf (l .loop .inv) (c .before .before .before .before .loop-test .taken)
-      (by-level _ (c .before .before .if1 .left) (c .before .is-end .ensures) (c .if2 .taken)))
+    let l = c .before .before .before .before .before in
+    walk-stops restedOf (l .loop .inv) (c .before .before .before .before .loop-test .taken)
+    (by-level _ (c .before .before .if1 .left) (c .before .is-end .ensures) (c .if2 .taken)))
     (λ c κs. search needs)
     (λ c. omega arith)
     (λ c. omega arith)
     (λ c.
-      let l = c .before .before .before .before .before .before in
-      walk-on (l .loop .inv) (c .before .before .before .before .before .loop-test .taken)
-      (by-level _ (c .before .before .before .if1 .left) (c .before .before .is-end .ensures) (c .before .if2 .left))
-      (c .see-on .ensures))
+    let l = c .before .before .before .before .before .before in
+    walk-on (l .loop .inv) (c .before .before .before .before .before .loop-test .taken)
+    (by-level _ (c .before .before .before .if1 .left) (c .before .before .is-end .ensures) (c .before .if2 .left))
+    (c .see-on .ensures))
     (λ c. walk-out restedOf (c .before .loop .inv) (c .loop-test .left)))
