@@ -99,61 +99,70 @@ rested-phase ph true false = refl
 rested-phase ph false true = refl
 rested-phase ph false false = refl
 
-module _ (c : Config) (enabled : c .sspen ≡ true) (l : Live) where
-  -- A stretch goes over an item: it is a level, and the sample leaves the module where the stretch does.
-  abbrev pub Sampled : Phase → Seen → ℕ → Phase → Seen → Type 0
-  Sampled ph w item ph′ w′ = (item < 4) × (sampled (placed c l ph w) (sclOf item) (sdaOf item) ≡ placed c l ph′ w′)
+-- A stretch goes over an item: it is a level, and the sample leaves the module where the stretch does.
+pub record Sampled (c : Config) (l : Live) (ph : Phase) (w : Seen) (item : ℕ) (ph′ : Phase) (w′ : Seen) : Type 0 where
+  pub level : item < 4
+  pub leaves : sampled (placed c l ph w) (sclOf item) (sdaOf item) ≡ placed c l ph′ w′
 
+module _ (c : Config) (enabled : c .sspen ≡ true) (l : Live) where
   pub address-goes :
       (p : Bits × Seen) (item : ℕ) → takingStops p item ≡ false
-      → Sampled (Address (p .0)) (p .1) item (Address (takingGoes p item .0)) (takingGoes p item .1)
+      → Sampled c l (Address (p .0)) (p .1) item (Address (takingGoes p item .0)) (takingGoes p item .1)
   address-goes p item h =
       let b : Bits = p .0 in let w : Seen = p .1 in
-      let k = level-goes item h in (
-        k .0,
-        ap (λ (t : Bool). seenIf t (placed c l (Address b) w) (sclOf item) (sdaOf item)) enabled
+      let k = level-goes item h in
+      record {
+        level = k .0;
+        leaves =
+            ap (λ (t : Bool). seenIf t (placed c l (Address b) w) (sclOf item) (sdaOf item)) enabled
             ∙ goes c l (Address b) false (whole b) (λ (sda : Bool). Address (pushed b sda)) (Address b) (λ e sda. refl)
             (λ e. ap (λ (t : Bool). addressFallIf t c l b) e) (w .mark) (w .scl) (w .sda) (sclOf item) (sdaOf item) (k .1)
-            ∙ ap (λ (ph : Phase). placed c l ph (takingGoes p item .1)) (taken-phase (λ (x : Bits). Address x) b (w .scl) (sclOf item) (sdaOf item)),
-      )
+            ∙ ap (λ (ph : Phase). placed c l ph (takingGoes p item .1)) (taken-phase (λ (x : Bits). Address x) b (w .scl) (sclOf item) (sdaOf item));
+      }
 
   pub data-goes :
       (p : Bits × Seen) (item : ℕ) → takingStops p item ≡ false
-      → Sampled (Data (p .0) false) (p .1) item (Data (takingGoes p item .0) false) (takingGoes p item .1)
+      → Sampled c l (Data (p .0) false) (p .1) item (Data (takingGoes p item .0) false) (takingGoes p item .1)
   data-goes p item h =
       let b : Bits = p .0 in let w : Seen = p .1 in
-      let k = level-goes item h in (
-        k .0,
-        ap (λ (t : Bool). seenIf t (placed c l (Data b false) w) (sclOf item) (sdaOf item)) enabled
+      let k = level-goes item h in
+      record {
+        level = k .0;
+        leaves =
+            ap (λ (t : Bool). seenIf t (placed c l (Data b false) w) (sclOf item) (sdaOf item)) enabled
             ∙ goes c l (Data b false) false (whole b) (λ (sda : Bool). Data (pushed b sda) false) (Data b false) (λ e sda. refl)
             (λ e. ap (λ (t : Bool). dataFallIf t c l b false) e) (w .mark) (w .scl) (w .sda) (sclOf item) (sdaOf item) (k .1)
-            ∙ ap (λ (ph : Phase). placed c l ph (takingGoes p item .1)) (taken-phase (λ (x : Bits). Data x false) b (w .scl) (sclOf item) (sdaOf item)),
-      )
+            ∙ ap (λ (ph : Phase). placed c l ph (takingGoes p item .1)) (taken-phase (λ (x : Bits). Data x false) b (w .scl) (sclOf item) (sdaOf item));
+      }
 
   pub sending-goes :
       (byte : ℕ) (p : ℕ × Seen) (item : ℕ) → sendingStops byte p item ≡ false
-      → Sampled (Sending byte (p .0)) (p .1) item (Sending byte (sendingGoes byte p item .0)) (sendingGoes byte p item .1)
+      → Sampled c l (Sending byte (p .0)) (p .1) item (Sending byte (sendingGoes byte p item .0)) (sendingGoes byte p item .1)
   sending-goes byte p item h =
       let place : ℕ = p .0 in let w : Seen = p .1 in
       let sda : Bool = onWire (sdaPulled (Sending byte place)) (sdaOf item) in
-      let k = level-goes item h in (
-        k .0,
-        ap (λ (t : Bool). seenIf t (placed c l (Sending byte place) w) (sclOf item) sda) enabled
+      let k = level-goes item h in
+      record {
+        level = k .0;
+        leaves =
+            ap (λ (t : Bool). seenIf t (placed c l (Sending byte place) w) (sclOf item) sda) enabled
             ∙ goes c l (Sending byte place) false (leb 7 place) (λ (x : Bool). Sending byte place) (Sending byte (place + 1)) (λ e x. refl)
             (λ e. ap (λ (t : Bool). bitSentIf t l byte place) (lt-ltb place 7 (leb-false 7 place e))) (w .mark) (w .scl) (w .sda) (sclOf item) sda (k .1)
-            ∙ ap (λ (ph : Phase). placed c l ph (sendingGoes byte p item .1)) (sent-phase byte place w (sclOf item) sda (k .1)),
-      )
+            ∙ ap (λ (ph : Phase). placed c l ph (sendingGoes byte p item .1)) (sent-phase byte place w (sclOf item) sda (k .1));
+      }
 
-  rest-goes :
+  pub rest-goes :
       (ph : Phase) (rise fall : Bool) → (rise ≡ false → (sda : Bool) → edgeStep c l ph (Rise sda) ≡ l at ph)
       → (fall ≡ false → edgeStep c l ph Fall ≡ l at ph) → (w : Seen) (item : ℕ)
       → restingStops (sclPulled ph) (sdaPulled ph) rise fall w item ≡ false
-      → Sampled ph w item ph (restingGoes (sclPulled ph) (sdaPulled ph) w item)
+      → Sampled c l ph w item ph (restingGoes (sclPulled ph) (sdaPulled ph) w item)
   rest-goes ph rise fall rises falls w item h =
       let scl : Bool = onWire (sclPulled ph) (sclOf item) in let sda : Bool = onWire (sdaPulled ph) (sdaOf item) in
-      let k = level-goes item h in (
-        k .0,
-        ap (λ (t : Bool). seenIf t (placed c l ph w) scl sda) enabled
+      let k = level-goes item h in
+      record {
+        level = k .0;
+        leaves =
+            ap (λ (t : Bool). seenIf t (placed c l ph w) scl sda) enabled
             ∙ goes c l ph rise fall (λ (x : Bool). ph) ph rises falls (w .mark) (w .scl) (w .sda) scl sda (k .1)
-            ∙ ap (λ (x : Phase). placed c l x (seenOn w scl sda)) (rested-phase ph (w .scl) scl),
-      )
+            ∙ ap (λ (x : Phase). placed c l x (seenOn w scl sda)) (rested-phase ph (w .scl) scl);
+      }

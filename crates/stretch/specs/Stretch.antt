@@ -1,9 +1,11 @@
 -- Stretches: how far a module goes before an item that a rule has to see, and where that leaves it.
 -- Assumes nothing.
-use Prim.Native.Nat.{ℕ}
+use Prim.Native.Nat.{ℕ, _≤_}
 use mathlib.Core.Bool.{Bool, true, false, cond, _||_, not}
 use mathlib.Core.List.{List}
+use native.Mathlib.Omega.{arith}
 use lib.Dec.{ltb, leb}
+use lib.ListN.{length}
 use Rattle.wire.specs.declared.Bits.{Bits}
 use Rattle.wire.specs.declared.Remembered.{Remembered}
 use Rattle.wire.specs.declared.Remembered.the-variants.{Nothing, Wire}
@@ -17,7 +19,7 @@ use Rattle.stretch.specs.declared.Taken.{Taken}
 use Rattle.stretch.specs.declared.Sent.{Sent}
 use Rattle.stretch.specs.declared.Rested.{Rested}
 use Rattle.stretch.specs.declared.Stretch.{Stretch}
-use Rattle.stretch.specs.Walk.{walked, steps}
+use Rattle.stretch.specs.Walk.{walked, steps, steps-within}
 use Rattle.stretch.specs.Seen.{seenOn, ends, takenAt, placeAt}
 
 -- ---- an address or data: a byte's last fall ends the stretch
@@ -28,7 +30,7 @@ abbrev pub takingGoes : Bits × Seen → ℕ → Bits × Seen
 takingGoes p item = (takenAt (p .0) (p .1) (sclOf item) (sdaOf item), seenOn (p .1) (sclOf item) (sdaOf item))
 
 abbrev pub takenOf : Bits × Seen → ℕ → Taken
-takenOf p length = record { bits = p .0; wire = p .1; length = length }
+takenOf p n = record { bits = p .0; wire = p .1; length = n }
 
 abbrev pub takingOf : Bits → Seen → List ℕ → Taken
 takingOf bits w items = takenOf (walked takingStops takingGoes (bits, w) items) (steps takingStops takingGoes (bits, w) items)
@@ -45,7 +47,7 @@ sendingGoes byte p item =
     (placeAt (p .0) (p .1) (sclOf item), seenOn (p .1) (sclOf item) (sentLevel byte (p .0) item))
 
 abbrev pub sentOf : ℕ × Seen → ℕ → Sent
-sentOf p length = record { place = p .0; wire = p .1; length = length }
+sentOf p n = record { place = p .0; wire = p .1; length = n }
 
 abbrev pub sendingOf : ℕ → ℕ → Seen → List ℕ → Sent
 sendingOf byte place w items =
@@ -60,7 +62,7 @@ abbrev pub restingGoes : Bool → Bool → Seen → ℕ → Seen
 restingGoes holds pulls w item = seenOn w (onWire holds (sclOf item)) (onWire pulls (sdaOf item))
 
 abbrev pub restedOf : Seen → ℕ → Rested
-restedOf w length = record { wire = w; length = length }
+restedOf w n = record { wire = w; length = n }
 
 abbrev pub restingOf : Bool → Bool → Bool → Bool → Seen → List ℕ → Rested
 restingOf holds pulls rise fall w items =
@@ -69,7 +71,7 @@ restingOf holds pulls rise fall w items =
 
 -- ---- the module
 abbrev pub stretchAt : Phase → Seen → ℕ → Stretch
-stretchAt ph w length = record { phase = ph; wire = w; length = length }
+stretchAt ph w n = record { phase = ph; wire = w; length = n }
 
 abbrev pub restOf : Phase → Bool → Bool → Bool → Bool → Seen → List ℕ → Stretch
 restOf ph holds pulls rise fall w items =
@@ -101,3 +103,26 @@ stretchFrom false (Wire scl sda) mark ph acktim items = stretchAt ph (record { s
 
 abbrev pub stretchOf : Module → List ℕ → Stretch
 stretchOf m items = stretchFrom (m .config .sspen) (m .line .remembered) (m .line .mark) (m .phase) (m .live .acktim) items
+
+-- ---- a stretch is no longer than the items
+phase-within : (ph : Phase) (acktim : Bool) (w : Seen) (items : List ℕ) → phaseStretch ph acktim w items .length ≤ length items
+phase-within Quiet acktim w items = steps-within (restingStops false false false false) (restingGoes false false) w items
+phase-within (Address bits) acktim w items = steps-within takingStops takingGoes (bits, w) items
+phase-within (Data bits true) acktim w items =
+    steps-within (restingStops true false false (whole bits)) (restingGoes true false) w items
+phase-within (Data bits false) acktim w items = steps-within takingStops takingGoes (bits, w) items
+phase-within (HeldBefore refused) acktim w items = steps-within (restingStops true false false false) (restingGoes true false) w items
+phase-within (Slot pulling) acktim w items = steps-within (restingStops false pulling acktim true) (restingGoes false pulling) w items
+phase-within HeldForSending acktim w items = steps-within (restingStops true false false false) (restingGoes true false) w items
+phase-within (Sending byte place) acktim w items = steps-within (sendingStops byte) (sendingGoes byte) (place, w) items
+phase-within MasterAcknowledge acktim w items = steps-within (restingStops false false true true) (restingGoes false false) w items
+
+stretch-from : (on : Bool) (rem : Remembered) (mark : Bool) (ph : Phase) (acktim : Bool) (items : List ℕ) → stretchFrom on rem mark ph acktim items .length ≤ length items
+stretch-from on Nothing mark ph acktim items = omega arith
+stretch-from true (Wire scl sda) mark ph acktim items =
+    phase-within ph acktim (record { scl = scl; sda = sda; mark = mark }) items
+stretch-from false (Wire scl sda) mark ph acktim items = omega arith
+
+pub stretch-within : (m : Module) (items : List ℕ) → stretchOf m items .length ≤ length items
+stretch-within m items =
+    stretch-from (m .config .sspen) (m .line .remembered) (m .line .mark) (m .phase) (m .live .acktim) items

@@ -19,6 +19,16 @@ unfoldable pub steps : {P : Type 0} → (P → ℕ → Bool) → (P → ℕ → 
 steps stop go p [] = 0
 steps stop go p (x ∷ xs) = cond (stop p x) 0 (suc (steps stop go (go p x) xs))
 
+-- It takes no more items than there are.
+within-if : (t : Bool) (k n : ℕ) → k ≤ n → cond t 0 (suc k) ≤ suc n
+within-if true k n h = omega arith
+within-if false k n h = omega arith
+
+pub steps-within : {P : Type 0} (stop : P → ℕ → Bool) (go : P → ℕ → P) (p : P) (items : List ℕ) → steps stop go p items ≤ length items
+unfolding steps
+steps-within stop go p [] = omega arith
+steps-within stop go p (x ∷ xs) = within-if (stop p x) (steps stop go (go p x) xs) (length xs) (steps-within stop go (go p x) xs)
+
 -- A loop that is at p before item i walks on as the whole walk from p₀ does.
 pub record Walking {P : Type 0} (stop : P → ℕ → Bool) (go : P → ℕ → P) (items : List ℕ) (p₀ : P) (i : ℕ) (p : P) : Type 0 where
   pub within : i ≤ length items

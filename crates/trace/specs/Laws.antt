@@ -32,18 +32,6 @@ module _ (s : State) (bytes : List ℕ) (item : ℕ) where
   pub step-idle : 4 ≤ item → (item ≡ 4 → ⊥) → served s bytes ≡ stepOf s bytes item
   step-idle h n = by-tests false false (le-ltb item 4 h) (ne-eqb item 4 n)
 
--- ---- the run, by what is left of the trace
-module _ (items : List ℕ) (i : ℕ) (w : Served) where
-  pub run-next :
-      {v : Served} → i < length items → v ≡ stepOf (w .state) (w .bytes) (getD items i 0)
-      → runFrom v (drop (i + 1) items) ≡ runFrom w (drop i items)
-  unfolding runFrom
-  run-next h e = rw (add-one, drop-cons items i 0 h, e)
-
-  pub run-end : length items ≤ i → runFrom w (drop i items) ≡ w
-  unfolding runFrom
-  run-end h = rw (drop-of-length-le items h)
-
 -- ---- the window
 module _ (s : State) (buffer : List ℕ) (start n : ℕ) (items : List ℕ) {f : Bool} (fits : f ≡ windowFits (length buffer) start n (s .handler .n)) where
   chosen :

@@ -5,11 +5,11 @@ use mathlib.Core.Bool.{Bool, true, false}
 use mathlib.Core.List.{List, [], _∷_}
 use lib.Dec.{eqb, ltb}
 use Rattle.items.specs.First.{firstAbove}
-use Rattle.wire.specs.declared.Line.{Line}
 use Rattle.wire.specs.Wire.{sclOf, sdaOf}
-use Rattle.mssp.specs.declared.Phase.{Phase}
 use Rattle.mssp.specs.Module.{moduleOf}
 use Rattle.sampling.specs.Rules.{sampled}
+use Rattle.stretch.specs.declared.Stretch.{Stretch}
+use Rattle.stretch.specs.Seen.{lineOf}
 use Rattle.firmware.specs.declared.State.{State}
 use Rattle.firmware.specs.Handler.{Served, served, stateOf, called}
 
@@ -21,9 +21,10 @@ firstBad items = firstAbove 4 items
 abbrev pub sampledBy : State → ℕ → State
 sampledBy s level = stateOf (sampled (s .mssp) (sclOf level) (sdaOf level)) (s .handler)
 
--- The module moves on to another phase and line.
-abbrev pub movedOn : State → Phase → Line → State
-movedOn s ph line = stateOf (moduleOf (s .mssp .config) (s .mssp .live) ph line) (s .handler)
+-- After a stretch the module is in another phase and has seen another wire; nothing else has changed.
+abbrev pub movedOn : State → Stretch → State
+movedOn s ahead =
+    stateOf (moduleOf (s .mssp .config) (s .mssp .live) (ahead .phase) (lineOf (ahead .wire))) (s .handler)
 
 -- One item: a sample, a handler call, or, where the byte is neither, nothing.
 abbrev pub stepIf : Bool → Bool → State → List ℕ → ℕ → Served

@@ -7,10 +7,9 @@ ghost use Rattle.trace.specs.Run.{sampledBy, movedOn, runOf};
 ghost use Rattle.trace.specs.Window.{ranIn, outcome, runInOf};
 use firmware::State;
 use mssp::Module;
-use mssp::Phase;
 use refusals::Refusal;
 use refusals::Verdict;
-use wire::Line;
+use stretch::Stretch;
 
 // What a run answers: the verdict, beside refusal 4 the first bad item's number, and the state after it.
 pub struct Ran {
@@ -32,14 +31,16 @@ pub fn sample(s: State, level: u8) -> State
     }
 }
 
-// A state with another phase and line.
-fn move_on(s: State, phase: Phase, line: Line) -> State
-    ensures { λ r. ⌜ r ≡ movedOn s phase line ⌝ }
+// The state after a stretch.
+fn move_on(s: State, ahead: Stretch) -> State
+    ensures { λ r. ⌜ r ≡ movedOn s ahead ⌝ }
 {
     let m = s.mssp;
+    let phase = ahead.phase;
+    let w = ahead.wire;
     let next = Module {
         phase: phase,
-        line: line,
+        line: stretch::line_of(w),
         ..m
     };
     State { mssp: next, ..s }
@@ -63,10 +64,10 @@ pub fn run(s: State, window: &mut [u8], items: &[u8]) -> State
         i += 1;
         let m = t.mssp;
         let ahead = stretch::ahead(m, &items[i..]);
-        let phase = ahead.phase;
-        let line = ahead.line;
-        t = move_on(t, phase, line);
-        i += ahead.length;
+        if ahead.length > 0 {
+            t = move_on(t, ahead);
+            i += ahead.length;
+        }
     }
     t
 }

@@ -1,0 +1,12 @@
+-- `trace::move_on` meets its contract.
+-- Assumes nothing.
+use borrow.Author.Needs.{needs}
+use Rattle.trace.proofs.move_on.Statement.{statement}
+use Rattle.trace.proofs.move_on.Tie as tie
+
+pub move-on-spec : {M : Type 1} → statement M
+move-on-spec =
+    tie.close
+    (tie.spec
+    (λ c κs. search needs)
+    (λ c. simp (c .before .before .before .line-of .ensures)))
