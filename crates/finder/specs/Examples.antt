@@ -5,7 +5,7 @@ use lib.Dec.{T, eqb}
 use mathlib.Core.Bool.{Bool, true, _&&_}
 use mathlib.Core.List.{List, [], _∷_}
 use Rattle.finder.specs.Messages.{lineBefore, edgeAt, placeAt, endFrom}
-use Rattle.items.specs.First.{firstAbove}
+use Rattle.items.specs.First.{span, firstAbove}
 use Rattle.finder.specs.Find.{spanOf, refusalOf, itemOf, startOf, lengthOf}
 
 -- A record, an item, and the answer's four numbers: refusal, bad item, start, length.
@@ -47,5 +47,5 @@ table =
     ∷ []
 
 pub examples : T (allHold table)
-unfolding lineBefore edgeAt placeAt endFrom firstAbove spanOf
+unfolding lineBefore edgeAt placeAt endFrom span spanOf
 examples = tt

@@ -18,7 +18,7 @@ use Rattle.finder.specs.declared.Place.{Place}
 use Rattle.finder.specs.declared.Place.the-variants.{Outside, Inside}
 use Rattle.finder.specs.declared.Found.the-variants.{Part, Refused}
 use Rattle.finder.specs.Messages.{levelAt, placeAt, endAt, IsMessage}
-use Rattle.items.specs.First.{firstAbove}
+use Rattle.items.specs.First.{span, firstAbove}
 use Rattle.finder.specs.Find.{firstBad, partFrom, messagePart, spanOf}
 use Rattle.finder.specs.Extent.{outside-inside, whole-message, item-inside}
 use Rattle.finder.specs.Laws.{span-bad, span-past, span-part}
@@ -75,7 +75,7 @@ count-step level levels n false e c =
     inl (record { within = omega arith; bad = leb-false level 3 e; good = λ k h. absurd (omega arith) })
 
 counted : (levels : List ℕ) → Counted levels (firstBad levels)
-unfolding Counted firstAbove
+unfolding Counted span
 counted [] = inr (refl, λ k h. absurd (omega arith))
 counted (level ∷ levels) = count-step level levels (firstBad levels) (leb level 3) refl (counted levels)
 

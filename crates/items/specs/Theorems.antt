@@ -8,16 +8,19 @@ use native.Mathlib.Omega.{arith}
 use lib.Dec.{leb, ltb}
 use lib.ListN.{length, getD}
 use borrow.Author.Tests.{leb-true, leb-false, ltb-true, ltb-false}
-use Rattle.items.specs.First.{firstAbove}
+use Rattle.items.specs.First.{span, firstAbove}
 
 within-if : (good : Bool) (k n : ℕ) → k ≤ n → cond good (suc k) 0 ≤ suc n
 within-if true k n h = omega arith
 within-if false k n h = omega arith
 
+pub span-within : (good : ℕ → Bool) (items : List ℕ) → span good items ≤ length items
+unfolding span
+span-within good [] = omega arith
+span-within good (x ∷ xs) = within-if (good x) (span good xs) (length xs) (span-within good xs)
+
 pub first-within : (most : ℕ) (items : List ℕ) → firstAbove most items ≤ length items
-unfolding firstAbove
-first-within most [] = omega arith
-first-within most (x ∷ xs) = within-if (leb x most) (firstAbove most xs) (length xs) (first-within most xs)
+first-within most items = span-within (λ (x : ℕ). leb x most) items
 
 before-if :
     (most : ℕ) (good : Bool) (x : ℕ) (xs : List ℕ) (k : ℕ) → leb x most ≡ good → ((i : ℕ) → i < k → getD xs i 0 ≤ most)
@@ -28,7 +31,7 @@ before-if most false x xs k e f i h = absurd (omega arith)
 
 -- Every byte before it is an item.
 pub before-first : (most : ℕ) (items : List ℕ) (i : ℕ) → i < firstAbove most items → getD items i 0 ≤ most
-unfolding firstAbove
+unfolding span
 before-first most [] i h = absurd (omega arith)
 before-first most (x ∷ xs) i h = before-if most (leb x most) x xs (firstAbove most xs) refl (before-first most xs) i h
 
@@ -40,7 +43,7 @@ at-if most false x xs k e f h = leb-false x most e
 
 -- It is none itself, unless the trace has ended.
 pub at-first : (most : ℕ) (items : List ℕ) → firstAbove most items < length items → most < getD items (firstAbove most items) 0
-unfolding firstAbove
+unfolding span
 at-first most [] h = absurd (omega arith)
 at-first most (x ∷ xs) h = at-if most (leb x most) x xs (firstAbove most xs) refl (at-first most xs) h
 

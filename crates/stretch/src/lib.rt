@@ -86,7 +86,7 @@ pub fn place_at(place: u8, w: Seen, scl: bool) -> u8
     }
 }
 
-// An address or data, up to the fall that ends a byte.
+// An address or data, up to the fall that ends a byte. Once a level is seen, the same level again changes nothing.
 pub fn taking(bits: Bits, from: Seen, items: &[u8]) -> Taken
     ensures { λ r. ⌜ r ≡ takingOf bits from (now (items .entry)) ⌝ }
 {
@@ -113,7 +113,7 @@ pub fn taking(bits: Bits, from: Seen, items: &[u8]) -> Taken
         }
         b = take_at(b, w, scl, sda);
         w = see_on(w, scl, sda);
-        i += 1;
+        i = items::first_other(items, i + 1, item);
     }
     Taken {
         bits: b,
@@ -122,7 +122,7 @@ pub fn taking(bits: Bits, from: Seen, items: &[u8]) -> Taken
     }
 }
 
-// A byte that is sent, up to the fall that ends it.
+// A byte that is sent, up to the fall that ends it. After a fall SDA may change under the same level.
 pub fn sending(byte: u8, first: u8, from: Seen, items: &[u8]) -> Sent
     ensures { λ r. ⌜ r ≡ sendingOf byte first from (now (items .entry)) ⌝ }
 {
@@ -147,9 +147,13 @@ pub fn sending(byte: u8, first: u8, from: Seen, items: &[u8]) -> Sent
                 length: i,
             };
         }
+        let falls = w.scl & !scl;
         place = place_at(place, w, scl);
         w = see_on(w, scl, sda);
         i += 1;
+        if !falls {
+            i = items::first_other(items, i, item);
+        }
     }
     Sent {
         place: place,
@@ -175,7 +179,7 @@ pub fn resting(holds: bool, pulls: bool, rise: bool, fall: bool, from: Seen, ite
             return Rested { wire: w, length: i };
         }
         w = see_on(w, scl, sda);
-        i += 1;
+        i = items::first_other(items, i + 1, item);
     }
     Rested { wire: w, length: i }
 }

@@ -41,3 +41,7 @@ never h = absurd (true≢false (sym h))
 pub and-first : (a b : Bool) → a && b ≡ true → a ≡ true
 and-first true b h = refl
 and-first false b h = h
+
+pub and-second : (a b : Bool) → a && b ≡ true → b ≡ true
+and-second true b h = h
+and-second false b h = absurd (true≢false (sym h))

@@ -1,35 +1,21 @@
--- `items::first_above` meets its contract: the first bad item is among those left.
+-- `items::first_above` meets its contract.
 -- Assumes nothing.
-use Prim.Native.Nat.{_+_, _-_, _≤_}
-use mathlib.Core.Path.{_≡_, _∙_, sym}
+use borrow.Author.Needs.{needs}
+use Prim.Native.Nat.{ℕ, _-_}
 use native.Mathlib.Omega.{arith}
-use lib.ListN.{length, drop}
-use Rattle.items.specs.First.{firstAbove}
-use Rattle.items.specs.Laws.{bad-later, bad-here, bad-nowhere}
+use lib.Dec.{leb}
+use lib.ListN.{length}
+use borrow.Author.Tests.{le-leb, lt-leb}
+use Rattle.items.specs.First.{Reached}
+use Rattle.items.specs.Laws.{from-start, reach-on, reach-here, reach-end}
 use Rattle.items.proofs.first_above.Statement.{statement}
 use Rattle.items.proofs.first_above.Tie as tie
 
 abbrev Inv-loop : tie.InvT-loop
-Inv-loop items most at₀ at = (at ≤ length items) × (at + firstAbove most (drop at items) ≡ firstAbove most items)
+Inv-loop items most at₀ at = Reached (λ (x : ℕ). leb x most) items 0 at
 
 abbrev μ-loop : tie.MeasureT-loop
 μ-loop items most at₀ at = length items - at
-
-returns : tie.Need-returns Inv-loop μ-loop
-returns c =
-    let l = c .before .before .before .loop in
-    sym (bad-here (c .before .before .before .before .args .most) (c .before .before .before .before .args .items .now) (l .at) (omega arith) (c .if1 .taken)) ∙ l .inv .1
-
-loop-again : tie.Need-loop-again Inv-loop μ-loop
-loop-again c =
-    let l = c .before .before .before .loop in
-    let a = c .before .before .before .before .args in
-    (omega arith, sym (bad-later (a .most) (a .items .now) (l .at) (omega arith) (c .if1 .left)) ∙ l .inv .1)
-
-returns-2 : tie.Need-returns-2 Inv-loop μ-loop
-returns-2 c =
-    let l = c .before .loop in
-    sym (bad-nowhere (c .before .before .args .most) (c .before .before .args .items .now) (l .at) (c .loop-test .left)) ∙ l .inv .1
 
 pub first-above-spec : {M : Type 1} → statement M
 first-above-spec =
@@ -37,10 +23,11 @@ first-above-spec =
     (tie.spec
     Inv-loop
     μ-loop
+    (λ c κs. search needs)
+    (λ c. c .past-below .ensures)
+    (λ c. omega arith)
+    (λ c. from-start (reach-here (c .before .before .before .loop .inv) (c .before .before .loop-test .taken) (lt-leb _ _ (c .if1 .taken))))
     (λ c. omega arith)
     (λ c. omega arith)
-    returns
-    (λ c. omega arith)
-    (λ c. omega arith)
-    loop-again
-    returns-2)
+    (λ c. reach-on (c .before .before .before .loop .inv) (c .before .before .loop-test .taken) (le-leb _ _ (c .if1 .left)))
+    (λ c. from-start (reach-end (c .before .loop .inv) (c .loop-test .left))))

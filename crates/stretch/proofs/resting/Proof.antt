@@ -4,9 +4,9 @@ use borrow.Author.Needs.{needs}
 use Prim.Native.Nat.{_-_}
 use native.Mathlib.Omega.{arith}
 use lib.ListN.{length}
-use Rattle.stretch.specs.Walk.{Walking, walk-begins, walk-on, walk-stops, walk-out}
+use Rattle.stretch.specs.Walk.{Walking, walk-begins, walk-over, walk-stops, walk-out}
 use Rattle.stretch.specs.Stretch.{restingStops, restingGoes, restedOf}
-use Rattle.stretch.specs.Laws.{no-level, by-level}
+use Rattle.stretch.specs.Laws.{no-level, by-level, resting-again}
 use Rattle.stretch.proofs.resting.Statement.{statement}
 use Rattle.stretch.proofs.resting.Tie as tie
 
@@ -28,15 +28,14 @@ resting-spec =
     (λ c. walk-stops restedOf (c .before .before .before .loop .inv) (c .before .before .loop-test .taken) (no-level _ _ (c .if1 .taken)))
     (λ c κs. search needs)
     (λ c.
-    let l = c .before .before .before .before .before in
-    walk-stops restedOf (l .loop .inv) (c .before .before .before .before .loop-test .taken)
+    walk-stops restedOf (c .before .before .before .before .before .loop .inv) (c .before .before .before .before .loop-test .taken)
     (by-level _ (c .before .before .if1 .left) (c .before .is-end .ensures) (c .if2 .taken)))
     (λ c κs. search needs)
     (λ c. omega arith)
-    (λ c. omega arith)
+    (λ c κs. omega arith)
+    (λ c. omega (arith, c .first-other .ensures))
     (λ c.
-    let l = c .before .before .before .before .before .before in
-    walk-on (l .loop .inv) (c .before .before .before .before .before .loop-test .taken)
-    (by-level _ (c .before .before .before .if1 .left) (c .before .before .is-end .ensures) (c .before .if2 .left))
-    (c .see-on .ensures))
+    walk-over (c .before .before .before .before .before .before .before .loop .inv) (c .before .before .before .before .before .before .loop-test .taken)
+    (by-level _ (c .before .before .before .before .if1 .left) (c .before .before .before .is-end .ensures) (c .before .before .if2 .left)) (c .before .see-on .ensures)
+    (resting-again (c .before .before .before .before .before .before .before .before .before .args .holds) (c .before .before .before .before .before .before .before .before .before .args .pulls) (c .before .before .before .before .before .before .before .before .before .args .rise) (c .before .before .before .before .before .before .before .before .before .args .fall) (c .before .before .before .before .before .before .before .loop .w) _ (c .before .before .before .before .if1 .left)) (c .first-other .ensures))
     (λ c. walk-out restedOf (c .before .loop .inv) (c .loop-test .left)))

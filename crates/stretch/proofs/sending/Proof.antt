@@ -5,9 +5,10 @@ use Prim.Native.Nat.{_-_}
 use mathlib.Core.Path.{ap₂}
 use native.Mathlib.Omega.{arith}
 use lib.ListN.{length}
-use Rattle.stretch.specs.Walk.{Walking, walk-begins, walk-on, walk-stops, walk-out}
+use borrow.Author.Tests.{not-true}
+use Rattle.stretch.specs.Walk.{Walking, walk-begins, walk-on, walk-over, walk-stops, walk-out}
 use Rattle.stretch.specs.Stretch.{sendingStops, sendingGoes, sentOf}
-use Rattle.stretch.specs.Laws.{no-level, by-level}
+use Rattle.stretch.specs.Laws.{no-level, by-level, sending-again}
 use Rattle.stretch.proofs.sending.Statement.{statement}
 use Rattle.stretch.proofs.sending.Tie as tie
 
@@ -34,9 +35,16 @@ sending-spec =
     (λ c κs. search needs)
     (λ c κs. search needs)
     (λ c. omega arith)
+    (λ c κs. omega arith)
+    (λ c. omega (arith, c .first-other .ensures))
+    (λ c.
+    walk-over (c .before .before .before .before .before .before .before .before .before .before .before .loop .inv) (c .before .before .before .before .before .before .before .before .before .before .loop-test .taken)
+    (by-level _ (c .before .before .before .before .before .before .before .before .if1 .left) (rw (c .before .before .before .before .before .before .before .is-zero-at .ensures) at (c .before .before .before .before .before .before .is-end .ensures)) (c .before .before .before .before .before .if2 .left))
+    (ap₂ (λ x y. (x, y)) (c .before .before .before .place-at .ensures) (rw (c .before .before .before .before .before .before .before .is-zero-at .ensures) at (c .before .before .see-on .ensures)))
+    (sending-again (c .before .before .before .before .before .before .before .before .before .before .before .before .before .args .byte) (c .before .before .before .before .before .before .before .before .before .before .before .loop .place, c .before .before .before .before .before .before .before .before .before .before .before .loop .w) _ (c .before .before .before .before .before .before .before .before .if1 .left) (not-true _ (c .before .if3 .taken))) (c .first-other .ensures))
     (λ c. omega arith)
     (λ c.
-    walk-on (c .before .before .before .before .before .before .before .before .loop .inv) (c .before .before .before .before .before .before .before .loop-test .taken)
-    (by-level _ (c .before .before .before .before .before .if1 .left) (rw (c .before .before .before .before .is-zero-at .ensures) at (c .before .before .before .is-end .ensures)) (c .before .before .if2 .left))
-    (ap₂ (λ x y. (x, y)) (c .before .place-at .ensures) (rw (c .before .before .before .before .is-zero-at .ensures) at (c .see-on .ensures))))
+    walk-on (c .before .before .before .before .before .before .before .before .before .before .loop .inv) (c .before .before .before .before .before .before .before .before .before .loop-test .taken)
+    (by-level _ (c .before .before .before .before .before .before .before .if1 .left) (rw (c .before .before .before .before .before .before .is-zero-at .ensures) at (c .before .before .before .before .before .is-end .ensures)) (c .before .before .before .before .if2 .left))
+    (ap₂ (λ x y. (x, y)) (c .before .before .place-at .ensures) (rw (c .before .before .before .before .before .before .is-zero-at .ensures) at (c .before .see-on .ensures))))
     (λ c. walk-out sentOf (c .before .loop .inv) (c .loop-test .left)))

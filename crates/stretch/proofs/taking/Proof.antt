@@ -5,9 +5,9 @@ use Prim.Native.Nat.{_-_}
 use mathlib.Core.Path.{ap₂}
 use native.Mathlib.Omega.{arith}
 use lib.ListN.{length}
-use Rattle.stretch.specs.Walk.{Walking, walk-begins, walk-on, walk-stops, walk-out}
+use Rattle.stretch.specs.Walk.{Walking, walk-begins, walk-over, walk-stops, walk-out}
 use Rattle.stretch.specs.Stretch.{takingStops, takingGoes, takenOf}
-use Rattle.stretch.specs.Laws.{no-level, by-level}
+use Rattle.stretch.specs.Laws.{no-level, by-level, taking-again}
 use Rattle.stretch.proofs.taking.Statement.{statement}
 use Rattle.stretch.proofs.taking.Tie as tie
 
@@ -34,9 +34,11 @@ taking-spec =
     (λ c κs. search needs)
     (λ c κs. search needs)
     (λ c. omega arith)
-    (λ c. omega arith)
+    (λ c κs. omega arith)
+    (λ c. omega (arith, c .first-other .ensures))
     (λ c.
-    walk-on (c .before .before .before .before .before .before .before .before .loop .inv) (c .before .before .before .before .before .before .before .loop-test .taken)
-    (by-level _ (c .before .before .before .before .before .if1 .left) (rw (c .before .before .before .before .is-whole .ensures) at (c .before .before .before .is-end .ensures)) (c .before .before .if2 .left))
-    (ap₂ (λ x y. (x, y)) (c .before .take-at .ensures) (c .see-on .ensures)))
+    walk-over (c .before .before .before .before .before .before .before .before .before .loop .inv) (c .before .before .before .before .before .before .before .before .loop-test .taken)
+    (by-level _ (c .before .before .before .before .before .before .if1 .left) (rw (c .before .before .before .before .before .is-whole .ensures) at (c .before .before .before .before .is-end .ensures)) (c .before .before .before .if2 .left))
+    (ap₂ (λ x y. (x, y)) (c .before .before .take-at .ensures) (c .before .see-on .ensures))
+    (taking-again (c .before .before .before .before .before .before .before .before .before .loop .b, c .before .before .before .before .before .before .before .before .before .loop .w) _ (c .before .before .before .before .before .before .if1 .left)) (c .first-other .ensures))
     (λ c. walk-out takenOf (c .before .loop .inv) (c .loop-test .left)))
