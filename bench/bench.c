@@ -1,4 +1,5 @@
-/* Feeds one capture to the archive and to the second program and measures both in one process, for bench/run.sh. */
+/* Feeds one capture to the archive and to the second program and measures both in one process, and writes the capture's wire
+   for sigrok; for bench/run.sh. */
 #include "second.h"
 #include "wherryoar.h"
 
@@ -15,9 +16,10 @@ enum { ADD = 0x30, N = 32, LONGEST = 400000, TIMED = 200000, COUNTED = 20000, RO
 enum { RUN, SECOND_RUN, SAMPLE, SECOND_SAMPLE };
 static const char *const names[KINDS] = {"wherryoar_run", "second_run", "wherryoar_sample", "second_sample"};
 
-/* The capture, and the state and memory that it is fed to. */
+/* The capture, its pairs of messages, and the state and memory that it is fed to. */
 static uint8_t trace[LONGEST];
 static size_t length;
+static unsigned pairs;
 static uint8_t image[IMAGE], memory[N];
 
 /* ---- The capture ---- */
@@ -65,25 +67,24 @@ static void stop(unsigned per_clock)
     samples(SCL | SDA, per_clock / 2);
 }
 
-/* Messages up to so many items: a pointer and eight bytes written, then as many read. */
+/* Pairs of messages up to so many items: a pointer and eight bytes written, then as many read. */
 static void make_capture(unsigned per_clock, size_t items)
 {
-    unsigned message = 0, i;
+    unsigned i;
 
     length = 0;
-    while (length < items) {
+    for (pairs = 0; length < items; pairs++) {
         start(per_clock);
         byte(ADD, 1, per_clock, 0);
-        byte(message * 5 & 0xFF, 1, per_clock, 1);
+        byte(pairs * 5 & 0xFF, 1, per_clock, 1);
         for (i = 0; i < 8; i++)
-            byte((message * 37 + i * 101) & 0xFF, 1, per_clock, 1);
+            byte((pairs * 37 + i * 101) & 0xFF, 1, per_clock, 1);
         stop(per_clock);
         start(per_clock);
         byte(ADD | 1, 1, per_clock, 0);
         for (i = 0; i < 8; i++)
             byte(0xFF, i == 7, per_clock, 1);
         stop(per_clock);
-        message++;
     }
 }
 
@@ -146,15 +147,15 @@ static int all_the_same(void)
 
 /* ---- Measuring ---- */
 
-/* Nanoseconds an item takes, the best of several rounds in which the four take turns. */
-static void measure(double best[KINDS])
+/* Nanoseconds an item takes, the best of several rounds in which the first so many kinds take turns. */
+static void measure(double best[KINDS], int kinds)
 {
     int round, kind;
 
-    for (kind = 0; kind < KINDS; kind++)
+    for (kind = 0; kind < kinds; kind++)
         best[kind] = 1e9;
     for (round = 0; round < ROUNDS; round++)
-        for (kind = 0; kind < KINDS; kind++) {
+        for (kind = 0; kind < kinds; kind++) {
             clock_t from = clock();
             double took;
 
@@ -165,20 +166,22 @@ static void measure(double best[KINDS])
         }
 }
 
-/* A line of the table for each number of samples per clock: that number, the items, and the four. */
-static int time_all(void)
+/* A line of the table for each number of samples per clock: that number, the items, and the first so many kinds. */
+static int time_all(int kinds)
 {
     static const unsigned per_clock[4] = {2, 4, 20, 100};
     double best[KINDS];
-    int i;
+    int i, kind;
 
     for (i = 0; i < 4; i++) {
         make_capture(per_clock[i], TIMED);
         if (!all_the_same())
             return 1;
-        measure(best);
-        printf("%u %lu %.3f %.3f %.3f %.3f\n", per_clock[i], (unsigned long)length, best[RUN], best[SECOND_RUN],
-               best[SAMPLE], best[SECOND_SAMPLE]);
+        measure(best, kinds);
+        printf("%u %lu", per_clock[i], (unsigned long)length);
+        for (kind = 0; kind < kinds; kind++)
+            printf(" %.3f", best[kind]);
+        printf("\n");
     }
     return 0;
 }
@@ -199,10 +202,45 @@ static int feed_times(const char *name, unsigned per_clock, unsigned times)
     return fine ? 0 : 1;
 }
 
-/* Without arguments: times. With a function's name, samples per clock and a number of times: that often. */
+/* ---- The wire ---- */
+
+/* An item, and the level it brings on the wire, what the module pulls included; a handler call brings none. */
+static int put_level(uint8_t item, FILE *file)
+{
+    if (item == CALL)
+        return wherryoar_call(image, IMAGE, memory, N, 0, N).refusal == 0;
+    return wherryoar_sample(image, IMAGE, item).refusal == 0 && putc(wherryoar_look(image, IMAGE).wire, file) != EOF;
+}
+
+/* Writes the wire of the capture that is timed, a byte for each level; prints the capture's items and pairs of messages. */
+static int write_wire(unsigned per_clock, const char *name)
+{
+    FILE *file = per_clock < 2 ? NULL : fopen(name, "wb");
+    int fine = file != NULL && wherryoar_setup(image, IMAGE, ADD, N).refusal == 0;
+    size_t i;
+
+    if (!fine)
+        return 2;
+    make_capture(per_clock, TIMED);
+    memset(memory, 0, N);
+    for (i = 0; i < length && fine; i++)
+        fine = put_level(trace[i], file);
+    fine = fclose(file) == 0 && fine;
+    printf("%lu %u\n", (unsigned long)length, pairs);
+    return fine ? 0 : 1;
+}
+
+/* Without arguments: times. wherryoar_run: its times alone. wire, samples per clock and a file: the wire goes to the file.
+   A function's name, samples per clock and a number of times: the capture is fed that often. */
 int main(int argc, char **argv)
 {
-    if (argc == 4)
-        return feed_times(argv[1], (unsigned)strtoul(argv[2], NULL, 10), (unsigned)strtoul(argv[3], NULL, 10));
-    return time_all();
+    unsigned per_clock = argc == 4 ? (unsigned)strtoul(argv[2], NULL, 10) : 0;
+
+    if (argc == 1)
+        return time_all(KINDS);
+    if (argc == 2 && strcmp(argv[1], names[RUN]) == 0)
+        return time_all(RUN + 1);
+    if (argc == 4 && strcmp(argv[1], "wire") == 0)
+        return write_wire(per_clock, argv[3]);
+    return argc == 4 ? feed_times(argv[1], per_clock, (unsigned)strtoul(argv[3], NULL, 10)) : 2;
 }

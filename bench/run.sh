@@ -1,5 +1,6 @@
 #!/usr/bin/env bash
-# Prints what an item costs in the archive and in the second program: times and instructions, under an emulator only these.
+# Prints what an item costs in the archive, in the second program and in sigrok, and whether the budgets are kept; ends with 1
+# where one is not. Archive and second program: times and instructions, under an emulator only these. sigrok: times.
 set -u
 cd "$(dirname "$0")/.." || exit 2
 . tools/machine.sh
@@ -10,7 +11,7 @@ rt staticlib door >/dev/null || exit 1
 $CC_ARCHIVE -std=c99 -O2 -Wall -Wextra -Wpedantic -Werror -Iinclude -Itests/second -o "$out/bench" \
     bench/bench.c tests/second/second.c "$archive" || exit 1
 
-# Lines 'samples-per-clock items run second-run sample second-sample' as a table, and the budgets they are held to.
+# Lines 'samples-per-clock items run second-run sample second-sample' as a table.
 table() { # table WHAT
     awk -v what="$1" '
     BEGIN {
@@ -22,13 +23,20 @@ table() { # table WHAT
     {
         printf "%9d %8d | %13.1f %10.1f %5.2f | %16.1f %13.1f %5.2f | %16.2f\n",
             $1, $2, $3, $4, $3 / $4, $5, $6, $5 / $6, $5 / $3
-        if ($3 / $4 > run) run = $3 / $4
-        if ($5 / $3 > sample) sample = $5 / $3
     }
+    END { exit NR == 0 }'
+}
+
+# The budgets of run and sample, from the lines of a table of instructions, which no other work on the machine changes; fails
+# where one is not kept.
+budgets() {
+    awk '
+    $3 / $4 > run { run = $3 / $4 }
+    $5 / $3 > sample { sample = $5 / $3 }
     END {
-        if (NR == 0) exit 1
         printf "run at most 1.50 times second_run: %.2f, %s; sample at most 20 times a step of run: %.2f, %s\n",
             run, run <= 1.5 ? "kept" : "NOT KEPT", sample, sample <= 20 ? "kept" : "NOT KEPT"
+        exit NR == 0 || run > 1.5 || sample > 20
     }'
 }
 
@@ -76,6 +84,89 @@ build_counter() {
     return 1
 }
 
+# Whether sigrok read every byte: a pair of messages has 19, ten of them in its write; only the last byte read is refused.
+# Without what the module pulls the wire would hold no acknowledge of it.
+all_read() { # all_read PAIRS
+    awk -v pairs="$1" '
+    / (Start|Stop)$/ { conditions++ }
+    / (Address|Data) write: / { written++ }
+    / (Address|Data) read: / { sent++ }
+    / ACK$/ { acknowledged++ }
+    / NACK$/ { refused++ }
+    END {
+        exit !(pairs > 0 && conditions == 4 * pairs && written == 10 * pairs && sent == 9 * pairs &&
+            acknowledged == 18 * pairs && refused == pairs)
+    }' "$out/read"
+}
+
+# A line 'copies seconds': the processor time that sigrok takes to read so many copies of a wire.
+sigrok_reads() { # sigrok_reads COPIES PAIRS
+    local TIMEFORMAT='%U %S' LC_ALL=C
+    { time sigrok-cli -I binary:numchannels=2 -i "$out/wire_$1" -P i2c:scl=1:sda=0:address_format=unshifted \
+        -A i2c=addr-data >"$out/read" 2>"$out/sigrok_said"; } 2>&1 | awk -v copies="$1" '{ print copies, $1 + $2 }'
+    all_read $(($1 * $2))
+}
+
+# A line 'samples-per-clock items bytes nanoseconds': several copies of the wire less one, since sigrok's start is no part of
+# an item, the best of several rounds. The copies make the clocks about as many whatever the samples per clock.
+sigrok_item() { # sigrok_item SAMPLES-PER-CLOCK
+    local copies=$(($1 / 2 + 1)) copy items pairs round
+    $RUN "$out/bench" wire "$1" "$out/wire_1" >"$out/made" && read -r items pairs <"$out/made" || return 1
+    for ((copy = 0; copy < copies; copy++)); do
+        cat "$out/wire_1"
+    done >"$out/wire_$copies"
+    for round in 1 2 3 4 5; do
+        sigrok_reads 1 "$pairs" && sigrok_reads "$copies" "$pairs" || return 1
+    done >"$out/rounds"
+    awk -v density="$1" -v items="$items" -v bytes=$((pairs * 19)) -v copies="$copies" '
+    !($1 in best) || $2 < best[$1] { best[$1] = $2 }
+    END {
+        printf "%d %d %d %.3f\n", density, items, bytes, (best[copies] - best[1]) * 1e9 / (copies - 1) / items
+    }' "$out/rounds"
+}
+
+# sigrok's lines beside the times of run as a table, and the budget; fails where it is not kept. An emulator slows run alone,
+# so under one the budget can be seen kept but not broken.
+sigrok_table() { # sigrok_table TIMES
+    awk -v emulated="$RUN" '
+    BEGIN {
+        print "nanoseconds (best of several) per item, sigrok and run on the same capture"
+        printf "%9s %8s %10s | %8s %13s %6s\n", "samples", "items", "bytes read", "sigrok", "wherryoar_run", "ratio"
+        printf "%9s %8s %10s |\n", "per clock", "", "by sigrok"
+    }
+    FNR == NR { run[$1] = $3; next }
+    {
+        ratio = $4 / run[$1]
+        printf "%9d %8d %10d | %8.1f %13.1f %6.1f\n", $1, $2, $3, $4, run[$1], ratio
+        if (FNR == 1 || ratio < least) least = ratio
+    }
+    END {
+        if (emulated == "") print "sigrok and the archive both run natively on this machine."
+        else print "sigrok runs natively on this machine, the archive under an emulator: the true ratios are higher." \
+            " The budget is for x86-64."
+        verdict = least >= 100 ? "kept" : emulated == "" ? "NOT KEPT" : "not judged under an emulator"
+        printf "run at least 100 times sigrok per item: %.1f, %s\n", least, verdict
+        exit verdict == "NOT KEPT"
+    }' "$1" -
+}
+
+# The table of sigrok, where sigrok can be had.
+compare_sigrok() { # compare_sigrok TIMES
+    local density
+    if ! need sigrok-cli sigrok-cli; then
+        echo "sigrok-cli cannot be had, so there is no comparison with sigrok."
+        return 0
+    fi
+    for density in 2 4 20 100; do
+        if ! sigrok_item "$density"; then
+            echo "sigrok did not read the bytes of the capture at $density samples per clock." >&2
+            return 1
+        fi
+    done >"$out/sigrok"
+    sigrok_table "$1" <"$out/sigrok"
+}
+
+status=0
 if [ -z "$RUN" ]; then
     "$out/bench" >"$out/times" || exit 1
     table "nanoseconds (best of several)" <"$out/times" || exit 1
@@ -83,12 +174,17 @@ if [ -z "$RUN" ]; then
     need valgrind valgrind || exit 2
     counter="valgrind's callgrind"
 else
-    echo "This machine is $(uname -m): the archive runs under an emulator, where times mean nothing, so none are given."
-    if ! build_counter; then
-        echo "The emulator takes no plugin that counts, so no instructions are given either."
-        exit 0
-    fi
+    echo "This machine is $(uname -m): the archive runs under an emulator, where times beside the second program mean nothing."
+    $RUN "$out/bench" wherryoar_run >"$out/times" || exit 1
     counter="a plugin of the emulator"
 fi
-count_all >"$out/counts" || exit 1
-table "instructions (x86-64, counted by $counter)" <"$out/counts"
+if [ -z "$RUN" ] || build_counter; then
+    count_all >"$out/counts" || exit 1
+    table "instructions (x86-64, counted by $counter)" <"$out/counts" || exit 1
+    budgets <"$out/counts" || status=1
+else
+    echo "The emulator takes no plugin that counts, so no instructions are given either."
+fi
+echo
+compare_sigrok "$out/times" || status=1
+exit $status
