@@ -243,7 +243,7 @@ pub fn in_phase(phase: Phase, acktim: bool, w: Seen, items: &[u8]) -> Stretch
     }
 }
 
-// The wire of a line that remembers one.
+// A wire that was seen, as a line.
 pub fn line_of(w: Seen) -> Line
     ensures { λ r. ⌜ r ≡ lineOf w ⌝ }
 {

@@ -72,7 +72,7 @@ pub fn run(s: State, window: &mut [u8], items: &[u8]) -> State
     t
 }
 
-// One sample: a run of one item, which no byte of memory is lent to.
+// One sample: a run of one item, over a byte of its own that it leaves alone.
 pub fn sample(s: State, level: u8) -> State
     requires { ⌜ level ≤ 3 ⌝ }
     ensures { λ r. ⌜ r ≡ sampledBy s level ⌝ }
