@@ -5,7 +5,7 @@ use lib.Dec.{T, eqb}
 use mathlib.Core.Bool.{Bool, true, _&&_}
 use mathlib.Core.List.{List, [], _∷_}
 use Rattle.finder.specs.Messages.{lineBefore, edgeAt, placeAt, endFrom}
-use Rattle.items.specs.First.{span, firstAbove}
+use Rattle.items.specs.First.{span}
 use Rattle.finder.specs.Find.{spanOf, refusalOf, itemOf, startOf, lengthOf}
 
 -- A record, an item, and the answer's four numbers: refusal, bad item, start, length.

@@ -18,7 +18,7 @@ use Rattle.finder.specs.declared.Place.{Place}
 use Rattle.finder.specs.declared.Place.the-variants.{Outside, Inside}
 use Rattle.finder.specs.declared.Found.the-variants.{Part, Refused}
 use Rattle.finder.specs.Messages.{levelAt, placeAt, endAt, IsMessage}
-use Rattle.items.specs.First.{span, firstAbove}
+use Rattle.items.specs.First.{span}
 use Rattle.finder.specs.Find.{firstBad, partFrom, messagePart, spanOf}
 use Rattle.finder.specs.Extent.{outside-inside, whole-message, item-inside}
 use Rattle.finder.specs.Laws.{span-bad, span-past, span-part}

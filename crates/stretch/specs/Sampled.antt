@@ -2,28 +2,27 @@
 -- the rules say.
 -- Assumes nothing.
 use Prim.Native.Nat.{ℕ, _+_, _%_, _<_}
-use mathlib.Core.Path.{_≡_, refl, sym, ap, ap₂, _∙_}
+use mathlib.Core.Path.{_≡_, refl, sym, ap, _∙_}
 use mathlib.Core.Bool.{Bool, true, false, cond, _||_}
 use native.Mathlib.Omega.{arith}
 use lib.Dec.{ltb, leb}
 use borrow.Author.Tests.{lt-ltb, leb-false, ltb-false}
 use Rattle.truth.specs.Tests.{never}
 use Rattle.wire.specs.declared.Bits.{Bits}
-use Rattle.wire.specs.declared.Edge.{Edge}
 use Rattle.wire.specs.declared.Edge.the-variants.{Rise, Fall}
 use Rattle.wire.specs.Byte.{pushed, whole}
 use Rattle.wire.specs.Wire.{sclOf, sdaOf, onWire}
 use Rattle.mssp.specs.declared.Config.{Config}
 use Rattle.mssp.specs.declared.Live.{Live}
 use Rattle.mssp.specs.declared.Phase.{Phase}
-use Rattle.mssp.specs.declared.Phase.the-variants.{Quiet, Address, Data, HeldBefore, Slot, HeldForSending, Sending, MasterAcknowledge}
+use Rattle.mssp.specs.declared.Phase.the-variants.{Address, Data, Sending}
 use Rattle.mssp.specs.declared.Module.{Module}
-use Rattle.mssp.specs.Module.{moduleOf, setACKTIM}
+use Rattle.mssp.specs.Module.{moduleOf}
 use Rattle.mssp.specs.Drivers.{sclPulled, sdaPulled}
 use Rattle.sampling.specs.declared.Moved.{Moved}
 use Rattle.sampling.specs.Rules.{_at_, addressFallIf, dataFallIf, bitSentIf, edgeStep, seenIf, sampled}
 use Rattle.stretch.specs.declared.Seen.{Seen}
-use Rattle.stretch.specs.Seen.{lineOf, seenOn, ends, takenAt, placeAt}
+use Rattle.stretch.specs.Seen.{lineOf, seenOn, ends, placeAt}
 use Rattle.stretch.specs.Stretch.{takingStops, takingGoes, sendingStops, sendingGoes, restingStops, restingGoes}
 
 -- A module whose line is a wire that was seen.

@@ -1,7 +1,7 @@
 -- The wire in a stretch: what a level is to it.
 -- Assumes nothing.
 use Prim.Native.Nat.{ℕ, _+_, _%_}
-use mathlib.Core.Bool.{Bool, true, false, cond, _&&_, not}
+use mathlib.Core.Bool.{Bool, true, false, cond, _&&_}
 use Rattle.wire.specs.declared.Bits.{Bits}
 use Rattle.wire.specs.declared.Line.{Line}
 use Rattle.wire.specs.declared.Edge.{Edge}

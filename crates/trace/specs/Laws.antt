@@ -1,21 +1,19 @@
--- The ways through a step, a search and a run: what the code knows on each, and what follows.
+-- The ways through a step and a window: what the code knows on each, and what follows.
 -- Assumes nothing.
-use Prim.Native.Nat.{ℕ, _+_, _-_, _<_, _≤_}
+use Prim.Native.Nat.{ℕ, _<_, _≤_}
 use mathlib.Core.Path.{_≡_, refl, sym, ap, ap₂, _∙_}
 use mathlib.Core.Bool.{Bool, true, false, not}
 use mathlib.Core.List.{List}
 use native.Mathlib.Omega.{arith}
-use native.Mathlib.Numerals.{add-one}
 use lib.Dec.{eqb, ltb}
-use lib.ListN.{length, drop, getD, drop-of-length-le}
-use lib.Seq.{drop-cons}
-use borrow.Author.Tests.{lt-ltb, le-ltb, le-leb, lt-leb, eq-eqb, ne-eqb, not-true, not-false}
+use lib.ListN.{length}
+use borrow.Author.Tests.{lt-ltb, le-ltb, eq-eqb, ne-eqb, not-true, not-false}
 use Rattle.refusals.specs.declared.Refusal.the-variants.{NoWindow, NoItem}
 use Rattle.refusals.specs.declared.Verdict.the-variants.{Done, Refused}
 use Rattle.firmware.specs.declared.State.{State}
 use Rattle.firmware.specs.Handler.{Served, served, called}
 use Rattle.firmware.specs.Window.{windowFits}
-use Rattle.trace.specs.Run.{firstBad, sampledBy, stepIf, stepOf, runFrom}
+use Rattle.trace.specs.Run.{firstBad, sampledBy, stepIf, stepOf}
 use Rattle.trace.specs.Window.{ranIn, outcome, ranOutcome, choice, runInOf}
 
 -- ---- one item

@@ -1,15 +1,15 @@
 -- What a run is, said without its code: single steps one after the other, over a window that keeps its length, in a buffer
 -- whose other bytes stay; and the first bad item is the first.
 -- Assumes nothing.
-use Prim.Native.Nat.{ℕ, zero, suc, _+_, _<_, _≤_}
+use Prim.Native.Nat.{ℕ, suc, _+_, _<_, _≤_}
 use mathlib.Core.Path.{_≡_, refl, sym, ap, _∙_}
-use mathlib.Core.Bool.{Bool, true, false, true≢false, cond}
+use mathlib.Core.Bool.{Bool, true, false, true≢false}
 use mathlib.Core.List.{List, [], _∷_, _++_}
 use native.Mathlib.Omega.{arith}
-use lib.Dec.{eqb, leb, ltb}
+use lib.Dec.{eqb, ltb}
 use lib.ListN.{length, take, drop, getD, length-set, length-drop}
 use lib.Seq.{take-suc, length-take-le, take-at, drop-at, drop-drop}
-use borrow.Author.Tests.{lt-ltb, ltb-true, ltb-false, leb-true, leb-false}
+use borrow.Author.Tests.{lt-ltb}
 use Rattle.refusals.specs.Numbers.{accepted}
 use Rattle.memory.specs.Memory.{Memory, put}
 use Rattle.firmware.specs.declared.State.{State}
