@@ -1,6 +1,7 @@
 #!/usr/bin/env bash
 # Prints what an item costs in the archive, in the second program and in sigrok, and whether the budgets are kept; ends with 1
-# where one is not. Archive and second program: times and instructions, under an emulator only these. sigrok: times.
+# where one in instructions is not. Archive and second program: times and instructions, under an emulator only these. sigrok:
+# times, which another program on the machine can spoil, so that its budget is told and fails nothing.
 set -u
 cd "$(dirname "$0")/.." || exit 2
 . tools/machine.sh
@@ -126,8 +127,8 @@ sigrok_item() { # sigrok_item SAMPLES-PER-CLOCK
     }' "$out/rounds"
 }
 
-# sigrok's lines beside the times of run as a table, and the budget; fails where it is not kept. An emulator slows run alone,
-# so under one the budget can be seen kept but not broken.
+# sigrok's lines beside the times of run as a table, and the budget. An emulator slows run alone, so under one the budget can be
+# seen kept but not broken.
 sigrok_table() { # sigrok_table TIMES
     awk -v emulated="$RUN" '
     BEGIN {
@@ -147,7 +148,6 @@ sigrok_table() { # sigrok_table TIMES
             " The budget is for x86-64."
         verdict = least >= 100 ? "kept" : emulated == "" ? "NOT KEPT" : "not judged under an emulator"
         printf "run at least 100 times sigrok per item: %.1f, %s\n", least, verdict
-        exit verdict == "NOT KEPT"
     }' "$1" -
 }
 
