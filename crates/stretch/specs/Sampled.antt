@@ -15,15 +15,15 @@ use Rattle.wire.specs.Wire.{sclOf, sdaOf, onWire}
 use Rattle.mssp.specs.declared.Config.{Config}
 use Rattle.mssp.specs.declared.Live.{Live}
 use Rattle.mssp.specs.declared.Phase.{Phase}
-use Rattle.mssp.specs.declared.Phase.the-variants.{Address, Data, Sending}
+use Rattle.mssp.specs.declared.Phase.the-variants.{Quiet, Address, Data, HeldBefore, Slot, HeldForSending, Sending, MasterAcknowledge}
 use Rattle.mssp.specs.declared.Module.{Module}
-use Rattle.mssp.specs.Module.{moduleOf}
-use Rattle.mssp.specs.Drivers.{sclPulled, sdaPulled}
+use Rattle.mssp.specs.Module.{moduleOf, setACKTIM}
+use Rattle.mssp.specs.Drivers.{sclPulled, sdaPulled, isSending}
 use Rattle.sampling.specs.declared.Moved.{Moved}
 use Rattle.sampling.specs.Rules.{_at_, addressFallIf, dataFallIf, bitSentIf, edgeStep, seenIf, sampled}
 use Rattle.stretch.specs.declared.Seen.{Seen}
 use Rattle.stretch.specs.Seen.{lineOf, seenOn, ends, placeAt}
-use Rattle.stretch.specs.Stretch.{takingStops, takingGoes, sendingStops, sendingGoes, restingStops, restingGoes}
+use Rattle.stretch.specs.Stretch.{takesBits, withBits, riseRule, fallRule, takingStops, takingGoes, sendingStops, sendingGoes, restingStops, restingGoes}
 
 -- A module whose line is a wire that was seen.
 abbrev pub placed : Config → Live → Phase → Seen → Module
@@ -104,7 +104,7 @@ pub record Sampled (c : Config) (l : Live) (ph : Phase) (w : Seen) (item : ℕ) 
   pub leaves : sampled (placed c l ph w) (sclOf item) (sdaOf item) ≡ placed c l ph′ w′
 
 module _ (c : Config) (enabled : c .sspen ≡ true) (l : Live) where
-  pub address-goes :
+  address-goes :
       (p : Bits × Seen) (item : ℕ) → takingStops p item ≡ false
       → Sampled c l (Address (p .0)) (p .1) item (Address (takingGoes p item .0)) (takingGoes p item .1)
   address-goes p item h =
@@ -119,7 +119,7 @@ module _ (c : Config) (enabled : c .sspen ≡ true) (l : Live) where
             ∙ ap (λ (ph : Phase). placed c l ph (takingGoes p item .1)) (taken-phase (λ (x : Bits). Address x) b (w .scl) (sclOf item) (sdaOf item));
       }
 
-  pub data-goes :
+  data-goes :
       (p : Bits × Seen) (item : ℕ) → takingStops p item ≡ false
       → Sampled c l (Data (p .0) false) (p .1) item (Data (takingGoes p item .0) false) (takingGoes p item .1)
   data-goes p item h =
@@ -150,18 +150,56 @@ module _ (c : Config) (enabled : c .sspen ≡ true) (l : Live) where
             ∙ ap (λ (ph : Phase). placed c l ph (sendingGoes byte p item .1)) (sent-phase byte place w (sclOf item) sda (k .1));
       }
 
+  -- By phase: where the phase takes bits, these move.
+  pub bits-go :
+      (ph : Phase) → takesBits ph ≡ true → (p : Bits × Seen) (item : ℕ) → takingStops p item ≡ false
+      → Sampled c l (withBits ph (p .0)) (p .1) item (withBits ph (takingGoes p item .0)) (takingGoes p item .1)
+  bits-go Quiet t p item h = never t
+  bits-go (Address bits) t p item h = address-goes p item h
+  bits-go (Data bits true) t p item h = never t
+  bits-go (Data bits false) t p item h = data-goes p item h
+  bits-go (HeldBefore refused) t p item h = never t
+  bits-go (Slot pulling) t p item h = never t
+  bits-go HeldForSending t p item h = never t
+  bits-go (Sending byte place) t p item h = never t
+  bits-go MasterAcknowledge t p item h = never t
+
+  -- Any other phase stays as it is at the edges that it has no rule for.
+  rises-by :
+      (ph : Phase) → takesBits ph ≡ false → riseRule ph (l .acktim) ≡ false → (sda : Bool) → edgeStep c l ph (Rise sda) ≡ l at ph
+  rises-by Quiet t r sda = refl
+  rises-by (Address bits) t r sda = never (sym t)
+  rises-by (Data bits true) t r sda = refl
+  rises-by (Data bits false) t r sda = never (sym t)
+  rises-by (HeldBefore refused) t r sda = refl
+  rises-by (Slot pulling) t r sda = ap (λ (x : Bool). setACKTIM x l at Slot pulling) (sym r)
+  rises-by HeldForSending t r sda = refl
+  rises-by (Sending byte place) t r sda = refl
+  rises-by MasterAcknowledge t r sda = never (sym r)
+
+  falls-by :
+      (ph : Phase) → takesBits ph ≡ false → isSending ph ≡ false → fallRule ph ≡ false → edgeStep c l ph Fall ≡ l at ph
+  falls-by Quiet t s f = refl
+  falls-by (Address bits) t s f = never (sym t)
+  falls-by (Data bits true) t s f = ap (λ (x : Bool). dataFallIf x c l bits true) f
+  falls-by (Data bits false) t s f = never (sym t)
+  falls-by (HeldBefore refused) t s f = refl
+  falls-by (Slot pulling) t s f = never (sym f)
+  falls-by HeldForSending t s f = refl
+  falls-by (Sending byte place) t s f = never (sym s)
+  falls-by MasterAcknowledge t s f = never (sym f)
+
   pub rest-goes :
-      (ph : Phase) (rise fall : Bool) → (rise ≡ false → (sda : Bool) → edgeStep c l ph (Rise sda) ≡ l at ph)
-      → (fall ≡ false → edgeStep c l ph Fall ≡ l at ph) → (w : Seen) (item : ℕ)
-      → restingStops (sclPulled ph) (sdaPulled ph) rise fall w item ≡ false
+      (ph : Phase) → takesBits ph ≡ false → isSending ph ≡ false → (w : Seen) (item : ℕ)
+      → restingStops (sclPulled ph) (sdaPulled ph) (riseRule ph (l .acktim)) (fallRule ph) w item ≡ false
       → Sampled c l ph w item ph (restingGoes (sclPulled ph) (sdaPulled ph) w item)
-  rest-goes ph rise fall rises falls w item h =
+  rest-goes ph t s w item h =
       let scl : Bool = onWire (sclPulled ph) (sclOf item) in let sda : Bool = onWire (sdaPulled ph) (sdaOf item) in
       let k = level-goes item h in
       record {
         level = k .0;
         leaves =
             ap (λ (t : Bool). seenIf t (placed c l ph w) scl sda) enabled
-            ∙ goes c l ph rise fall (λ (x : Bool). ph) ph rises falls (w .mark) (w .scl) (w .sda) scl sda (k .1)
+            ∙ goes c l ph (riseRule ph (l .acktim)) (fallRule ph) (λ (x : Bool). ph) ph (rises-by ph t) (falls-by ph t s) (w .mark) (w .scl) (w .sda) scl sda (k .1)
             ∙ ap (λ (x : Phase). placed c l x (seenOn w scl sda)) (rested-phase ph (w .scl) scl);
       }

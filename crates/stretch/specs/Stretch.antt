@@ -1,7 +1,7 @@
 -- Stretches: how far a module goes before an item that a rule has to see, and where that leaves it.
 -- Assumes nothing.
 use Prim.Native.Nat.{ℕ, _≤_}
-use mathlib.Core.Bool.{Bool, true, false, _||_}
+use mathlib.Core.Bool.{Bool, true, false, _||_, not}
 use mathlib.Core.List.{List}
 use native.Mathlib.Omega.{arith}
 use lib.Dec.{ltb, leb}
@@ -9,11 +9,12 @@ use lib.ListN.{length}
 use Rattle.wire.specs.declared.Bits.{Bits}
 use Rattle.wire.specs.declared.Remembered.{Remembered}
 use Rattle.wire.specs.declared.Remembered.the-variants.{Nothing, Wire}
-use Rattle.wire.specs.Byte.{whole, zeroAt}
+use Rattle.wire.specs.Byte.{none, whole, zeroAt}
 use Rattle.wire.specs.Wire.{sclOf, sdaOf, onWire}
 use Rattle.mssp.specs.declared.Phase.{Phase}
 use Rattle.mssp.specs.declared.Phase.the-variants.{Quiet, Address, Data, HeldBefore, Slot, HeldForSending, Sending, MasterAcknowledge}
 use Rattle.mssp.specs.declared.Module.{Module}
+use Rattle.mssp.specs.Drivers.{sclPulled, sdaPulled, isSending}
 use Rattle.stretch.specs.declared.Seen.{Seen}
 use Rattle.stretch.specs.declared.Taken.{Taken}
 use Rattle.stretch.specs.declared.Sent.{Sent}
@@ -73,26 +74,71 @@ restingOf holds pulls rise fall w items =
 abbrev pub stretchAt : Phase → Seen → ℕ → Stretch
 stretchAt ph w n = record { phase = ph; wire = w; length = n }
 
-abbrev pub restOf : Phase → Bool → Bool → Bool → Bool → Seen → List ℕ → Stretch
-restOf ph holds pulls rise fall w items =
-    let r : Rested = restingOf holds pulls rise fall w items in
+-- The phases in which a rise takes a bit, and what bits a phase has; of a byte that is sent its place and the byte.
+abbrev pub takesBits : Phase → Bool
+takesBits Quiet = false
+takesBits (Address bits) = true
+takesBits (Data bits held) = not held
+takesBits (HeldBefore refused) = false
+takesBits (Slot pulling) = false
+takesBits HeldForSending = false
+takesBits (Sending byte place) = false
+takesBits MasterAcknowledge = false
+
+abbrev pub bitsOf : Phase → Bits
+bitsOf Quiet = none
+bitsOf (Address bits) = bits
+bitsOf (Data bits held) = bits
+bitsOf (HeldBefore refused) = none
+bitsOf (Slot pulling) = none
+bitsOf HeldForSending = none
+bitsOf (Sending byte place) = record { count = place; value = byte }
+bitsOf MasterAcknowledge = none
+
+abbrev pub withBits : Phase → Bits → Phase
+withBits Quiet b = Quiet
+withBits (Address bits) b = Address b
+withBits (Data bits held) b = Data b held
+withBits (HeldBefore refused) b = HeldBefore refused
+withBits (Slot pulling) b = Slot pulling
+withBits HeldForSending b = HeldForSending
+withBits (Sending byte place) b = Sending byte place
+withBits MasterAcknowledge b = MasterAcknowledge
+
+-- The phases without bits that have a rule for a rise, the slot only while ACKTIM stands, and for a fall.
+abbrev pub riseRule : Phase → Bool → Bool
+riseRule Quiet acktim = false
+riseRule (Address bits) acktim = false
+riseRule (Data bits held) acktim = false
+riseRule (HeldBefore refused) acktim = false
+riseRule (Slot pulling) acktim = acktim
+riseRule HeldForSending acktim = false
+riseRule (Sending byte place) acktim = false
+riseRule MasterAcknowledge acktim = true
+
+abbrev pub fallRule : Phase → Bool
+fallRule Quiet = false
+fallRule (Address bits) = false
+fallRule (Data bits held) = whole bits
+fallRule (HeldBefore refused) = false
+fallRule (Slot pulling) = true
+fallRule HeldForSending = false
+fallRule (Sending byte place) = false
+fallRule MasterAcknowledge = true
+
+-- By whether the phase takes bits, else by whether it sends.
+abbrev pub stretchBy : Bool → Bool → Phase → Bool → Seen → List ℕ → Stretch
+stretchBy true sends ph acktim w items =
+    let r : Taken = takingOf (bitsOf ph) w items in stretchAt (withBits ph (r .bits)) (r .wire) (r .length)
+stretchBy false true ph acktim w items =
+    let r : Sent = sendingOf (bitsOf ph .value) (bitsOf ph .count) w items in
+    stretchAt (Sending (bitsOf ph .value) (r .place)) (r .wire) (r .length)
+stretchBy false false ph acktim w items =
+    let r : Rested = restingOf (sclPulled ph) (sdaPulled ph) (riseRule ph acktim) (fallRule ph) w items in
     stretchAt ph (r .wire) (r .length)
 
-abbrev pub takeOf : (Bits → Phase) → Bits → Seen → List ℕ → Stretch
-takeOf ph bits w items = let r : Taken = takingOf bits w items in stretchAt (ph (r .bits)) (r .wire) (r .length)
-
--- The slot has a rule for its rise only while ACKTIM stands.
 abbrev pub phaseStretch : Phase → Bool → Seen → List ℕ → Stretch
-phaseStretch Quiet acktim w items = restOf Quiet false false false false w items
-phaseStretch (Address bits) acktim w items = takeOf (λ b. Address b) bits w items
-phaseStretch (Data bits true) acktim w items = restOf (Data bits true) true false false (whole bits) w items
-phaseStretch (Data bits false) acktim w items = takeOf (λ b. Data b false) bits w items
-phaseStretch (HeldBefore refused) acktim w items = restOf (HeldBefore refused) true false false false w items
-phaseStretch (Slot pulling) acktim w items = restOf (Slot pulling) false pulling acktim true w items
-phaseStretch HeldForSending acktim w items = restOf HeldForSending true false false false w items
-phaseStretch (Sending byte place) acktim w items =
-    let r : Sent = sendingOf byte place w items in stretchAt (Sending byte (r .place)) (r .wire) (r .length)
-phaseStretch MasterAcknowledge acktim w items = restOf MasterAcknowledge false false true true w items
+phaseStretch ph acktim w items = stretchBy (takesBits ph) (isSending ph) ph acktim w items
 
 -- Before any level was seen, and disabled, there is no stretch.
 abbrev pub stretchFrom : Bool → Remembered → Bool → Phase → Bool → List ℕ → Stretch
@@ -105,17 +151,17 @@ abbrev pub stretchOf : Module → List ℕ → Stretch
 stretchOf m items = stretchFrom (m .config .sspen) (m .line .remembered) (m .line .mark) (m .phase) (m .live .acktim) items
 
 -- ---- a stretch is no longer than the items
+within-by :
+    (takes sends : Bool) (ph : Phase) (acktim : Bool) (w : Seen) (items : List ℕ)
+    → stretchBy takes sends ph acktim w items .length ≤ length items
+within-by true sends ph acktim w items = steps-within takingStops takingGoes (bitsOf ph, w) items
+within-by false true ph acktim w items =
+    steps-within (sendingStops (bitsOf ph .value)) (sendingGoes (bitsOf ph .value)) (bitsOf ph .count, w) items
+within-by false false ph acktim w items =
+    steps-within (restingStops (sclPulled ph) (sdaPulled ph) (riseRule ph acktim) (fallRule ph)) (restingGoes (sclPulled ph) (sdaPulled ph)) w items
+
 phase-within : (ph : Phase) (acktim : Bool) (w : Seen) (items : List ℕ) → phaseStretch ph acktim w items .length ≤ length items
-phase-within Quiet acktim w items = steps-within (restingStops false false false false) (restingGoes false false) w items
-phase-within (Address bits) acktim w items = steps-within takingStops takingGoes (bits, w) items
-phase-within (Data bits true) acktim w items =
-    steps-within (restingStops true false false (whole bits)) (restingGoes true false) w items
-phase-within (Data bits false) acktim w items = steps-within takingStops takingGoes (bits, w) items
-phase-within (HeldBefore refused) acktim w items = steps-within (restingStops true false false false) (restingGoes true false) w items
-phase-within (Slot pulling) acktim w items = steps-within (restingStops false pulling acktim true) (restingGoes false pulling) w items
-phase-within HeldForSending acktim w items = steps-within (restingStops true false false false) (restingGoes true false) w items
-phase-within (Sending byte place) acktim w items = steps-within (sendingStops byte) (sendingGoes byte) (place, w) items
-phase-within MasterAcknowledge acktim w items = steps-within (restingStops false false true true) (restingGoes false false) w items
+phase-within ph acktim w items = within-by (takesBits ph) (isSending ph) ph acktim w items
 
 stretch-from : (on : Bool) (rem : Remembered) (mark : Bool) (ph : Phase) (acktim : Bool) (items : List ℕ) → stretchFrom on rem mark ph acktim items .length ≤ length items
 stretch-from on Nothing mark ph acktim items = omega arith

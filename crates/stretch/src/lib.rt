@@ -2,7 +2,7 @@
 // leaves every other sample to the rules.
 ghost use mathlib.Core.Path.{_≡_};
 ghost use Rattle.stretch.specs.Seen.{lineOf, seenOn, ends, takenAt, placeAt};
-ghost use Rattle.stretch.specs.Stretch.{takingOf, sendingOf, restingOf, stretchAt, restOf, phaseStretch, stretchOf};
+ghost use Rattle.stretch.specs.Stretch.{takingOf, sendingOf, restingOf, stretchAt, takesBits, bitsOf, withBits, riseRule, fallRule, phaseStretch, stretchOf};
 use mssp::Module;
 use mssp::Phase;
 use wire::Bits;
@@ -194,53 +194,117 @@ fn ended(phase: Phase, w: Seen, length: usize) -> Stretch
     }
 }
 
-fn rest(
-    phase: Phase,
-    holds: bool,
-    pulls: bool,
-    rise: bool,
-    fall: bool,
-    w: Seen,
-    items: &[u8],
-) -> Stretch
-    ensures { λ r. ⌜ r ≡ restOf phase holds pulls rise fall w (now (items .entry)) ⌝ }
+// Whether a rise takes a bit.
+fn takes_bits(phase: Phase) -> bool
+    ensures { λ r. ⌜ r ≡ takesBits phase ⌝ }
 {
-    let r = resting(holds, pulls, rise, fall, w, items);
-    let left = r.wire;
-    ended(phase, left, r.length)
+    match phase {
+        Phase::Quiet => false,
+        Phase::Address(_) => true,
+        Phase::Data(_, held) => !held,
+        Phase::HeldBefore(_) => false,
+        Phase::Slot(_) => false,
+        Phase::HeldForSending => false,
+        Phase::Sending(_, _) => false,
+        Phase::MasterAcknowledge => false,
+    }
 }
 
-// A stretch in any phase. The slot has a rule for its rise only while ACKTIM stands.
+// The bits so far; of a byte that is sent its place and the byte.
+fn bits_of(phase: Phase) -> Bits
+    ensures { λ r. ⌜ r ≡ bitsOf phase ⌝ }
+{
+    match phase {
+        Phase::Quiet => wire::no_bits(),
+        Phase::Address(bits) => bits,
+        Phase::Data(bits, _) => bits,
+        Phase::HeldBefore(_) => wire::no_bits(),
+        Phase::Slot(_) => wire::no_bits(),
+        Phase::HeldForSending => wire::no_bits(),
+        Phase::Sending(byte, place) => Bits {
+            count: place,
+            value: byte,
+        },
+        Phase::MasterAcknowledge => wire::no_bits(),
+    }
+}
+
+// The same phase with other bits.
+fn with_bits(phase: Phase, bits: Bits) -> Phase
+    ensures { λ r. ⌜ r ≡ withBits phase bits ⌝ }
+{
+    match phase {
+        Phase::Quiet => phase,
+        Phase::Address(_) => Phase::Address(bits),
+        Phase::Data(_, held) => Phase::Data(bits, held),
+        Phase::HeldBefore(_) => phase,
+        Phase::Slot(_) => phase,
+        Phase::HeldForSending => phase,
+        Phase::Sending(_, _) => phase,
+        Phase::MasterAcknowledge => phase,
+    }
+}
+
+// Whether a phase without bits has a rule for a rise. The slot has one only while ACKTIM stands.
+fn has_rise(phase: Phase, acktim: bool) -> bool
+    ensures { λ r. ⌜ r ≡ riseRule phase acktim ⌝ }
+{
+    match phase {
+        Phase::Quiet => false,
+        Phase::Address(_) => false,
+        Phase::Data(_, _) => false,
+        Phase::HeldBefore(_) => false,
+        Phase::Slot(_) => acktim,
+        Phase::HeldForSending => false,
+        Phase::Sending(_, _) => false,
+        Phase::MasterAcknowledge => true,
+    }
+}
+
+// Whether it has one for a fall.
+fn has_fall(phase: Phase) -> bool
+    ensures { λ r. ⌜ r ≡ fallRule phase ⌝ }
+{
+    match phase {
+        Phase::Quiet => false,
+        Phase::Address(_) => false,
+        Phase::Data(bits, _) => wire::is_whole(bits),
+        Phase::HeldBefore(_) => false,
+        Phase::Slot(_) => true,
+        Phase::HeldForSending => false,
+        Phase::Sending(_, _) => false,
+        Phase::MasterAcknowledge => true,
+    }
+}
+
+// A stretch in any phase.
 pub fn in_phase(phase: Phase, acktim: bool, w: Seen, items: &[u8]) -> Stretch
     ensures { λ r. ⌜ r ≡ phaseStretch phase acktim w (now (items .entry)) ⌝ }
 {
-    match phase {
-        Phase::Quiet => rest(phase, false, false, false, false, w, items),
-        Phase::Address(bits) => {
-            let r = taking(bits, w, items);
-            let taken = r.bits;
-            let left = r.wire;
-            ended(Phase::Address(taken), left, r.length)
-        }
-        Phase::Data(bits, held) => {
-            if held {
-                return rest(phase, true, false, false, wire::is_whole(bits), w, items);
-            }
-            let r = taking(bits, w, items);
-            let taken = r.bits;
-            let left = r.wire;
-            ended(Phase::Data(taken, false), left, r.length)
-        }
-        Phase::HeldBefore(_) => rest(phase, true, false, false, false, w, items),
-        Phase::Slot(pulling) => rest(phase, false, pulling, acktim, true, w, items),
-        Phase::HeldForSending => rest(phase, true, false, false, false, w, items),
-        Phase::Sending(byte, place) => {
-            let r = sending(byte, place, w, items);
-            let left = r.wire;
-            ended(Phase::Sending(byte, r.place), left, r.length)
-        }
-        Phase::MasterAcknowledge => rest(phase, false, false, true, true, w, items),
+    let bits = bits_of(phase);
+    if takes_bits(phase) {
+        let r = taking(bits, w, items);
+        let taken = r.bits;
+        let left = r.wire;
+        return ended(with_bits(phase, taken), left, r.length);
     }
+    if mssp::is_sending(phase) {
+        let r = sending(bits.value, bits.count, w, items);
+        let left = r.wire;
+        return ended(Phase::Sending(bits.value, r.place), left, r.length);
+    }
+    let holds = mssp::pulls_scl(phase);
+    let pulls = mssp::pulls_sda(phase);
+    let r = resting(
+        holds,
+        pulls,
+        has_rise(phase, acktim),
+        has_fall(phase),
+        w,
+        items,
+    );
+    let left = r.wire;
+    ended(phase, left, r.length)
 }
 
 // A wire that was seen, as a line.

@@ -15,19 +15,19 @@ use Rattle.truth.specs.Tests.{never}
 use Rattle.wire.specs.declared.Bits.{Bits}
 use Rattle.wire.specs.declared.Remembered.{Remembered}
 use Rattle.wire.specs.declared.Remembered.the-variants.{Nothing, Wire}
-use Rattle.wire.specs.Byte.{whole}
 use Rattle.mssp.specs.declared.Config.{Config}
 use Rattle.mssp.specs.declared.Live.{Live}
 use Rattle.mssp.specs.declared.Phase.{Phase}
 use Rattle.mssp.specs.declared.Phase.the-variants.{Quiet, Address, Data, HeldBefore, Slot, HeldForSending, Sending, MasterAcknowledge}
 use Rattle.mssp.specs.declared.Module.{Module}
-use Rattle.mssp.specs.Module.{moduleOf, setACKTIM}
-use Rattle.sampling.specs.Rules.{_at_, dataFallIf}
+use Rattle.mssp.specs.Module.{moduleOf}
+use Rattle.sampling.specs.Rules.{_at_}
 use Rattle.stretch.specs.declared.Seen.{Seen}
 use Rattle.stretch.specs.declared.Stretch.{Stretch}
 use Rattle.stretch.specs.Walk.{walked, steps}
-use Rattle.stretch.specs.Stretch.{takingStops, takingGoes, sendingStops, sendingGoes, restingStops, restingGoes, phaseStretch, stretchFrom, stretchOf, stretch-within}
-use Rattle.stretch.specs.Sampled.{placed, Sampled, address-goes, data-goes, sending-goes, rest-goes}
+use Rattle.mssp.specs.Drivers.{sclPulled, sdaPulled, isSending}
+use Rattle.stretch.specs.Stretch.{takesBits, bitsOf, withBits, riseRule, fallRule, stretchBy, takingStops, takingGoes, sendingStops, sendingGoes, restingStops, restingGoes, phaseStretch, stretchFrom, stretchOf, stretch-within}
+use Rattle.stretch.specs.Sampled.{placed, Sampled, bits-go, sending-goes, rest-goes}
 use Rattle.firmware.specs.declared.Handler.{Handler}
 use Rattle.firmware.specs.declared.State.{State}
 use Rattle.firmware.specs.Handler.{Served, served, stateOf}
@@ -61,6 +61,27 @@ level-step :
     → stepOf s bytes item ≡ served (stateOf m (s .handler)) bytes
 level-step s bytes item h e = ap (λ (t : Bool). stepIf t (eqb item 4) s bytes item) (lt-ltb item 4 h) ∙ e
 
+-- A phase has its own bits.
+own-bits : (ph : Phase) → withBits ph (bitsOf ph) ≡ ph
+own-bits Quiet = refl
+own-bits (Address bits) = refl
+own-bits (Data bits held) = refl
+own-bits (HeldBefore refused) = refl
+own-bits (Slot pulling) = refl
+own-bits HeldForSending = refl
+own-bits (Sending byte place) = refl
+own-bits MasterAcknowledge = refl
+
+own-byte : (ph : Phase) → isSending ph ≡ true → Sending (bitsOf ph .value) (bitsOf ph .count) ≡ ph
+own-byte Quiet s = never s
+own-byte (Address bits) s = never s
+own-byte (Data bits held) s = never s
+own-byte (HeldBefore refused) s = never s
+own-byte (Slot pulling) s = never s
+own-byte HeldForSending s = never s
+own-byte (Sending byte place) s = refl
+own-byte MasterAcknowledge s = never s
+
 -- ---- the stretches of an enabled module that has seen a wire
 module _ (c : Config) (enabled : c .sspen ≡ true) (l : Live) (h : Handler) (bytes : List ℕ) where
   abbrev state : Phase → Seen → State
@@ -76,34 +97,26 @@ module _ (c : Config) (enabled : c .sspen ≡ true) (l : Live) (h : Handler) (by
   Runs ph w items r =
       runFrom (served (state ph w) bytes) items ≡ runFrom (served (state (r .phase) (r .wire)) bytes) (drop (r .length) items)
 
+  -- By whether the phase takes bits, else by whether it sends.
+  runs-by :
+      (takes sends : Bool) (ph : Phase) (w : Seen) (items : List ℕ) → takesBits ph ≡ takes → isSending ph ≡ sends
+      → Runs ph w items (stretchBy takes sends ph (l .acktim) w items)
+  runs-by true sends ph w items t s =
+      ap (λ (x : Phase). runFrom (served (state x w) bytes) items) (sym (own-bits ph))
+      ∙ walk-runs takingStops takingGoes (λ (p : Bits × Seen). state (withBits ph (p .0)) (p .1)) bytes
+      (λ p item e. steps-so item (bits-go c enabled l ph t p item e)) (bitsOf ph, w) items
+  runs-by false true ph w items t s =
+      let byte : ℕ = bitsOf ph .value in
+      ap (λ (x : Phase). runFrom (served (state x w) bytes) items) (sym (own-byte ph s))
+      ∙ walk-runs (sendingStops byte) (sendingGoes byte) (λ (p : ℕ × Seen). state (Sending byte (p .0)) (p .1)) bytes
+      (λ p item e. steps-so item (sending-goes c enabled l byte p item e)) (bitsOf ph .count, w) items
+  runs-by false false ph w items t s =
+      walk-runs (restingStops (sclPulled ph) (sdaPulled ph) (riseRule ph (l .acktim)) (fallRule ph))
+      (restingGoes (sclPulled ph) (sdaPulled ph)) (λ (x : Seen). state ph x) bytes
+      (λ x item e. steps-so item (rest-goes c enabled l ph t s x item e)) w items
+
   phase-runs : (ph : Phase) (w : Seen) (items : List ℕ) → Runs ph w items (phaseStretch ph (l .acktim) w items)
-  phase-runs (Address bits) w items =
-      walk-runs takingStops takingGoes (λ (p : Bits × Seen). state (Address (p .0)) (p .1)) bytes
-      (λ p item e. steps-so item (address-goes c enabled l p item e)) (bits, w) items
-  phase-runs (Data bits false) w items =
-      walk-runs takingStops takingGoes (λ (p : Bits × Seen). state (Data (p .0) false) (p .1)) bytes
-      (λ p item e. steps-so item (data-goes c enabled l p item e)) (bits, w) items
-  phase-runs (Sending byte place) w items =
-      walk-runs (sendingStops byte) (sendingGoes byte) (λ (p : ℕ × Seen). state (Sending byte (p .0)) (p .1)) bytes
-      (λ p item e. steps-so item (sending-goes c enabled l byte p item e)) (place, w) items
-  phase-runs Quiet w items =
-      walk-runs (restingStops false false false false) (restingGoes false false) (λ (x : Seen). state Quiet x) bytes
-      (λ x item e. steps-so item (rest-goes c enabled l Quiet false false (λ k sda. refl) (λ k. refl) x item e)) w items
-  phase-runs (Data bits true) w items =
-      walk-runs (restingStops true false false (whole bits)) (restingGoes true false) (λ (x : Seen). state (Data bits true) x) bytes
-      (λ x item e. steps-so item (rest-goes c enabled l (Data bits true) false (whole bits) (λ k sda. refl) (λ k. ap (λ (t : Bool). dataFallIf t c l bits true) k) x item e)) w items
-  phase-runs (HeldBefore refused) w items =
-      walk-runs (restingStops true false false false) (restingGoes true false) (λ (x : Seen). state (HeldBefore refused) x) bytes
-      (λ x item e. steps-so item (rest-goes c enabled l (HeldBefore refused) false false (λ k sda. refl) (λ k. refl) x item e)) w items
-  phase-runs (Slot pulling) w items =
-      walk-runs (restingStops false pulling (l .acktim) true) (restingGoes false pulling) (λ (x : Seen). state (Slot pulling) x) bytes
-      (λ x item e. steps-so item (rest-goes c enabled l (Slot pulling) (l .acktim) true (λ k sda. ap (λ (t : Bool). setACKTIM t l at Slot pulling) (sym k)) (λ k. never (sym k)) x item e)) w items
-  phase-runs HeldForSending w items =
-      walk-runs (restingStops true false false false) (restingGoes true false) (λ (x : Seen). state HeldForSending x) bytes
-      (λ x item e. steps-so item (rest-goes c enabled l HeldForSending false false (λ k sda. refl) (λ k. refl) x item e)) w items
-  phase-runs MasterAcknowledge w items =
-      walk-runs (restingStops false false true true) (restingGoes false false) (λ (x : Seen). state MasterAcknowledge x) bytes
-      (λ x item e. steps-so item (rest-goes c enabled l MasterAcknowledge true true (λ k sda. never (sym k)) (λ k. never (sym k)) x item e)) w items
+  phase-runs ph w items = runs-by (takesBits ph) (isSending ph) ph w items refl refl
 
 -- ---- the stretch ahead
 module _ (s : State) (bytes items : List ℕ) where
@@ -111,20 +124,20 @@ module _ (s : State) (bytes items : List ℕ) where
   from rem =
       stateOf (moduleOf (s .mssp .config) (s .mssp .live) (s .mssp .phase) (record { remembered = rem; mark = s .mssp .line .mark })) (s .handler)
 
-  runs-by :
+  runs-from :
       (on : Bool) → s .mssp .config .sspen ≡ on → (rem : Remembered)
       → let r : Stretch = stretchFrom on rem (s .mssp .line .mark) (s .mssp .phase) (s .mssp .live .acktim) items in
       0 < r .length → runFrom (served (from rem) bytes) items ≡ runFrom (served (movedOn s r) bytes) (drop (r .length) items)
-  runs-by on e Nothing h = absurd (omega arith)
-  runs-by false e (Wire scl sda) h = absurd (omega arith)
-  runs-by true e (Wire scl sda) h =
+  runs-from on e Nothing h = absurd (omega arith)
+  runs-from false e (Wire scl sda) h = absurd (omega arith)
+  runs-from true e (Wire scl sda) h =
       phase-runs (s .mssp .config) e (s .mssp .live) (s .handler) bytes (s .mssp .phase)
       (record { scl = scl; sda = sda; mark = s .mssp .line .mark }) items
 
   pub ahead-runs :
       let r : Stretch = stretchOf (s .mssp) items in 0 < r .length
       → runFrom (served s bytes) items ≡ runFrom (served (movedOn s r) bytes) (drop (r .length) items)
-  ahead-runs = runs-by (s .mssp .config .sspen) refl (s .mssp .line .remembered)
+  ahead-runs = runs-from (s .mssp .config .sspen) refl (s .mssp .line .remembered)
 
 -- ---- the run, by what is left of the items
 -- The items from i on, as the loop lends them.

@@ -1,4 +1,4 @@
--- `stretch::in_phase` meets its contract: each arm knows its phase.
+-- `stretch::in_phase` meets its contract.
 -- Assumes nothing.
 use borrow.Author.Needs.{needs}
 use Rattle.stretch.proofs.in_phase.Statement.{statement}
@@ -8,33 +8,20 @@ pub in-phase-spec : {M : Type 1} → statement M
 in-phase-spec =
     tie.close
     (tie.spec
-    (λ c. search needs)
-    (λ c κs. search needs)
-    (λ c. search needs)
     (λ c κs. search needs)
     (λ c κs. search needs)
-    (λ c. search needs)
     (λ c κs. search needs)
     (λ c κs. search needs)
-    (λ c. simp (c .before .before .before .before .phase2 .given .1, c .before .before .if1 .taken, c .rest2 .ensures, c .before .is-whole .ensures))
+    (λ c κs. search needs)
+    (λ c. simp (← c .before .before .before .before .before .before .takes-bits .ensures, c .before .before .before .before .before .if1 .taken, c .ended .ensures, c .before .with-bits .ensures, c .before .before .before .before .taking .ensures, c .before .before .before .before .before .before .before .bits-of .ensures))
     (λ c κs. search needs)
     (λ c κs. search needs)
-    (λ c. search needs)
     (λ c κs. search needs)
-    (λ c. search needs)
-    (λ c κs. search needs)
-    (λ c. search needs)
-    (λ c κs. search needs)
-    (λ c. search needs)
+    (λ c. simp (← c .before .before .before .before .before .before .takes-bits .ensures, c .before .before .before .before .before .if1 .left, ← c .before .before .before .before .is-sending .ensures, c .before .before .before .if2 .taken, c .ended2 .ensures, c .before .before .sending .ensures, c .before .before .before .before .before .before .before .bits-of .ensures))
     (λ c κs. search needs)
     (λ c κs. search needs)
-    (λ c. search needs)
     (λ c κs. search needs)
-    (λ c. simp (c .before .enum-told .given .1, c .rest .ensures))
-    (λ c. simp (c .before .before .before .before .before .phase .given .1, c .ended .ensures, c .before .before .before .taking .ensures))
-    (λ c. simp (c .before .before .before .before .before .before .phase2 .given .1, c .before .before .before .before .if1 .left, c .ended2 .ensures, c .before .before .before .taking2 .ensures))
-    (λ c. simp (c .before .enum-told2 .given .1, c .rest3 .ensures))
-    (λ c. simp (c .before .before .phase3 .given .1, c .rest4 .ensures))
-    (λ c. simp (c .before .enum-told3 .given .1, c .rest5 .ensures))
-    (λ c. simp (c .before .before .before .before .phase4 .given .1, c .ended3 .ensures, c .before .before .sending .ensures))
-    (λ c. simp (c .before .enum-told4 .given .1, c .rest6 .ensures)))
+    (λ c κs. search needs)
+    (λ c κs. search needs)
+    (λ c κs. search needs)
+    (λ c. simp (← c .before .before .before .before .before .before .before .before .before .before .takes-bits .ensures, c .before .before .before .before .before .before .before .before .before .if1 .left, ← c .before .before .before .before .before .before .before .before .is-sending .ensures, c .before .before .before .before .before .before .before .if2 .left, c .ended3 .ensures, c .before .before .resting .ensures, c .before .before .before .has-fall .ensures, c .before .before .before .before .has-rise .ensures, c .before .before .before .before .before .pulls-sda .ensures, c .before .before .before .before .before .before .pulls-scl .ensures)))

@@ -1,0 +1,26 @@
+-- `stretch::with_bits` meets its contract.
+-- Assumes nothing.
+use borrow.Author.Needs.{needs}
+use Rattle.stretch.proofs.with_bits.Statement.{statement}
+use Rattle.stretch.proofs.with_bits.Tie as tie
+
+pub with-bits-spec : {M : Type 1} → statement M
+with-bits-spec =
+    tie.close
+    (tie.spec
+    (λ c. search needs)
+    (λ c. search needs)
+    (λ c. search needs)
+    (λ c. search needs)
+    (λ c. search needs)
+    (λ c. search needs)
+    (λ c. search needs)
+    (λ c. search needs)
+    (λ c. search needs)
+    (λ c. simp (c .enum-told2 .given .1))
+    (λ c. simp (c .before .phase .given .1))
+    (λ c. search needs)
+    (λ c. search needs)
+    (λ c. search needs)
+    (λ c. search needs)
+    (λ c. search needs))
