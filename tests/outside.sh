@@ -73,6 +73,7 @@ build_checked() {
     for program in replay agree checks sequences capture cut wirebytes; do
         gcc $strict $checked -o "$out/checked_$program" tests/$program.c $second $plain || return 1
     done
+    gcc $strict $checked -o "$out/checked_dense" tests/dense.c tests/traffic.c $second || return 1
     gcc $strict $checked -o "$out/checked_corpus" tests/fuzz/door_fuzz.c tests/fuzz/corpus_main.c tests/fuzz/step.c $second
 }
 try build_checked build_checked
@@ -154,6 +155,7 @@ fi
 try checked_replay "$out/checked_replay" tests/vectors/base.txt
 try checked_agree "$out/checked_agree" 40000
 try checked_checks "$out/checked_checks"
+try checked_dense "$out/checked_dense" 200000
 try checked_sequences "$out/checked_sequences"
 try checked_captures same_reports "$out/checked_capture" report -
 try checked_cut "$out/checked_cut" "$out"/wires/brief_*.bin

@@ -8,8 +8,8 @@ failed=0
 out=$(pwd)/target/tests
 mkdir -p "$out"
 strict="-Wall -Wextra -Wpedantic -Werror"
-steps=20000000 mutations=4000000
-[ -z "$RUN" ] || steps=1000000 mutations=1000000 # an emulator is slow
+steps=20000000 mutations=4000000 dense=20000000
+[ -z "$RUN" ] || steps=1000000 mutations=1000000 dense=3000000 # an emulator is slow
 door="-Iinclude -Itests -Itests/second -DDOOR_PREFIX=wherryoar_ -DDOOR_HEADER=\"wherryoar.h\""
 
 try() { # try NAME COMMAND..
@@ -73,6 +73,14 @@ try compare $RUN "$out/compare" "$steps"
 for place in 1 2 3 4; do
     try "spoiled_$place" spoiled "$place"
 done
+
+# Runs in which a level stands for many samples; then runs spoilt on purpose, which has to be found.
+build_dense() {
+    build dense tests/dense.c tests/traffic.c tests/second/second.c
+}
+try build_dense build_dense
+try dense $RUN "$out/dense" "$dense"
+try spoiled_dense $RUN "$out/dense" 200000 7 1
 
 # What the header says of the archive as a whole: eight functions, nothing called, no memory of its own.
 alone() {

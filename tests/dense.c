@@ -1,0 +1,150 @@
+/* Runs in which a level stands for many samples, as a fast scope takes them: a run through the door beside single steps and
+   beside the second program's run. */
+#include "door.h"
+#include "second.h"
+#include "traffic.h"
+
+#include <stdio.h>
+#include <stdlib.h>
+#include <string.h>
+
+enum { IMAGE = DOOR_IMAGE, LONGEST = 4096, MEMORY = 256, CON1 = 2, CON2 = 3, CON3 = 4 };
+
+/* A state with its memory. */
+typedef struct {
+    uint8_t image[IMAGE], memory[MEMORY];
+} device;
+
+/* The items of a run so far, the state that it begins with, and that state after each item by itself. */
+typedef struct {
+    traffic source;
+    uint8_t trace[LONGEST];
+    size_t length;
+    device before, stepped;
+    int spoil;
+    unsigned long items, runs, rows, calls, differences;
+} bench;
+
+/* ---- One item at a time ---- */
+
+/* An item goes to the stepped state and to the end of the trace. */
+static void step(bench *b, unsigned item)
+{
+    device *d = &b->stepped;
+    uint32_t refusal = item == TRAFFIC_CALL
+                           ? door.call(d->image, IMAGE, d->memory, MEMORY, 0, b->source.n).refusal
+                           : door.sample(d->image, IMAGE, (uint8_t)item).refusal;
+
+    b->trace[b->length++] = (uint8_t)item;
+    if (refusal != 0)
+        b->differences++;
+}
+
+/* How often a level is sampled: once, around a multiple of eight, or any number of times. */
+static unsigned some_times(traffic *t)
+{
+    unsigned pick = traffic_below(t, 4);
+
+    if (pick == 0)
+        return 1;
+    return pick == 1 ? 1 + traffic_below(t, 70) : 8 * (1 + traffic_below(t, 4)) - 1 + traffic_below(t, 3);
+}
+
+/* ---- The run ---- */
+
+/* The door's run and the second program's over the trace, from the state that it began with. */
+static void compare(bench *b)
+{
+    device run = b->before, second = b->before;
+    uint32_t refusals;
+
+    if (b->length == 0)
+        return;
+    if (b->spoil && b->trace[b->length / 2] != TRAFFIC_CALL)
+        b->trace[b->length / 2] ^= TRAFFIC_SDA;
+    refusals = door.run(run.image, IMAGE, run.memory, MEMORY, 0, b->source.n, b->trace, b->length).refusal;
+    refusals |= second_run(second.image, IMAGE, second.memory, MEMORY, 0, b->source.n, b->trace, b->length).refusal;
+    if (refusals != 0 || memcmp(&run, &b->stepped, sizeof run) != 0 || memcmp(&run, &second, sizeof run) != 0)
+        b->differences++;
+    b->runs++;
+    b->length = 0;
+    b->before = b->stepped;
+}
+
+/* Takes an item of the traffic: a level many times over, a handler call once. */
+static int take(void *to, unsigned item)
+{
+    bench *b = to;
+    unsigned times = item == TRAFFIC_CALL ? 1 : some_times(&b->source);
+
+    if (b->length + times > LONGEST)
+        compare(b);
+    if (item == TRAFFIC_CALL)
+        b->calls++;
+    else
+        b->rows++;
+    b->items += times;
+    while (times-- > 0)
+        step(b, item);
+    return door.look(b->stepped.image, IMAGE).scl_pulled;
+}
+
+/* ---- Rounds ---- */
+
+/* A fresh state, mostly with other settings than the handler's. */
+static int begin(bench *b)
+{
+    static const uint16_t lengths[4] = {1, 2, 255, 256};
+    traffic *t = &b->source;
+    uint32_t refusals;
+
+    t->n = lengths[traffic_below(t, 4)];
+    t->add = (uint8_t)(traffic_below(t, 128) * 2);
+    memset(&b->stepped, 0, sizeof b->stepped);
+    refusals = door.setup(b->stepped.image, IMAGE, t->add, t->n).refusal;
+    if (!traffic_once_in(t, 3)) {
+        refusals |= door.write(b->stepped.image, IMAGE, CON2, (uint8_t)(traffic_below(t, 256) & 0xA1)).refusal;
+        refusals |= door.write(b->stepped.image, IMAGE, CON3, (uint8_t)(traffic_below(t, 256) & 0x63)).refusal;
+        refusals |= door.write(b->stepped.image, IMAGE, CON1, traffic_once_in(t, 8) ? 0x16 : 0x3E).refusal;
+    }
+    b->before = b->stepped;
+    b->length = 0;
+    return refusals == 0;
+}
+
+/* Some messages and noise, in runs of their own and over each other's ends. */
+static int round_of(bench *b)
+{
+    unsigned messages = 1 + traffic_below(&b->source, 6);
+
+    if (!begin(b))
+        return 0;
+    while (messages-- > 0) {
+        b->source.left = 400;
+        if (traffic_once_in(&b->source, 6))
+            traffic_noise(&b->source);
+        traffic_message(&b->source);
+        if (traffic_once_in(&b->source, 2))
+            compare(b);
+    }
+    compare(b);
+    return 1;
+}
+
+/* The arguments: about how many items, a seed, and whether runs are spoilt, which has to be found. */
+int main(int argc, char **argv)
+{
+    static bench b;
+    unsigned long items = argc > 1 ? strtoul(argv[1], NULL, 10) : 20000000ul;
+    int fine = 1;
+
+    b.source.seed = argc > 2 ? strtoul(argv[2], NULL, 10) : 1;
+    b.source.seed += b.source.seed == 0;
+    b.spoil = argc > 3 && strcmp(argv[3], "0") != 0;
+    b.source.take = take;
+    b.source.to = &b;
+    while (b.items < items && fine && (b.spoil || b.differences == 0))
+        fine = round_of(&b);
+    printf("items %lu rows %lu calls %lu runs %lu differences %lu\n", b.items, b.rows, b.calls, b.runs, b.differences);
+    return fine && (b.differences != 0) == b.spoil ? 0 : 1;
+}
