@@ -147,15 +147,15 @@ static int all_the_same(void)
 
 /* ---- Measuring ---- */
 
-/* Nanoseconds an item takes, the best of several rounds in which the first so many kinds take turns. */
-static void measure(double best[KINDS], int kinds)
+/* Nanoseconds an item takes, the best of several rounds in which the four take turns. */
+static void measure(double best[KINDS])
 {
     int round, kind;
 
-    for (kind = 0; kind < kinds; kind++)
+    for (kind = 0; kind < KINDS; kind++)
         best[kind] = 1e9;
     for (round = 0; round < ROUNDS; round++)
-        for (kind = 0; kind < kinds; kind++) {
+        for (kind = 0; kind < KINDS; kind++) {
             clock_t from = clock();
             double took;
 
@@ -166,22 +166,20 @@ static void measure(double best[KINDS], int kinds)
         }
 }
 
-/* A line of the table for each number of samples per clock: that number, the items, and the first so many kinds. */
-static int time_all(int kinds)
+/* A line of the table for each number of samples per clock: that number, the items, and the four. */
+static int time_all(void)
 {
     static const unsigned per_clock[4] = {2, 4, 20, 100};
     double best[KINDS];
-    int i, kind;
+    int i;
 
     for (i = 0; i < 4; i++) {
         make_capture(per_clock[i], TIMED);
         if (!all_the_same())
             return 1;
-        measure(best, kinds);
-        printf("%u %lu", per_clock[i], (unsigned long)length);
-        for (kind = 0; kind < kinds; kind++)
-            printf(" %.3f", best[kind]);
-        printf("\n");
+        measure(best);
+        printf("%u %lu %.3f %.3f %.3f %.3f\n", per_clock[i], (unsigned long)length, best[RUN], best[SECOND_RUN],
+               best[SAMPLE], best[SECOND_SAMPLE]);
     }
     return 0;
 }
@@ -230,16 +228,14 @@ static int write_wire(unsigned per_clock, const char *name)
     return fine ? 0 : 1;
 }
 
-/* Without arguments: times. wherryoar_run: its times alone. wire, samples per clock and a file: the wire goes to the file.
-   A function's name, samples per clock and a number of times: the capture is fed that often. */
+/* Without arguments: times. wire, samples per clock and a file: the wire goes to the file. A function's name, samples per
+   clock and a number of times: the capture is fed that often. */
 int main(int argc, char **argv)
 {
     unsigned per_clock = argc == 4 ? (unsigned)strtoul(argv[2], NULL, 10) : 0;
 
     if (argc == 1)
-        return time_all(KINDS);
-    if (argc == 2 && strcmp(argv[1], names[RUN]) == 0)
-        return time_all(RUN + 1);
+        return time_all();
     if (argc == 4 && strcmp(argv[1], "wire") == 0)
         return write_wire(per_clock, argv[3]);
     return argc == 4 ? feed_times(argv[1], per_clock, (unsigned)strtoul(argv[3], NULL, 10)) : 2;

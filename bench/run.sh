@@ -127,19 +127,21 @@ sigrok_item() { # sigrok_item SAMPLES-PER-CLOCK
     }' "$out/rounds"
 }
 
-# sigrok's lines beside the times of run as a table, and the budget. An emulator slows run alone, so under one the budget can be
-# seen kept but not broken.
+# sigrok's lines beside the times of run and sample as a table, and the budget. An emulator slows these alone, so under one the
+# budget can be seen kept but not broken.
 sigrok_table() { # sigrok_table TIMES
     awk -v emulated="$RUN" '
     BEGIN {
-        print "nanoseconds (best of several) per item, sigrok and run on the same capture"
-        printf "%9s %8s %10s | %8s %13s %6s\n", "samples", "items", "bytes read", "sigrok", "wherryoar_run", "ratio"
-        printf "%9s %8s %10s |\n", "per clock", "", "by sigrok"
+        print "nanoseconds (best of several) per item, sigrok, run and sample on the same capture"
+        printf "%9s %8s %10s | %8s | %13s %6s | %16s %6s\n", "samples", "items", "bytes read", "sigrok", "wherryoar_run", "ratio",
+            "wherryoar_sample", "ratio"
+        printf "%9s %8s %10s | %8s | %13s %6s |\n", "per clock", "", "by sigrok", "", "", ""
     }
-    FNR == NR { run[$1] = $3; next }
+    FNR == NR { run[$1] = $3; sample[$1] = $5; next }
     {
         ratio = $4 / run[$1]
-        printf "%9d %8d %10d | %8.1f %13.1f %6.1f\n", $1, $2, $3, $4, run[$1], ratio
+        printf "%9d %8d %10d | %8.1f | %13.1f %6.1f | %16.1f %6.2f\n",
+            $1, $2, $3, $4, run[$1], ratio, sample[$1], $4 / sample[$1]
         if (FNR == 1 || ratio < least) least = ratio
     }
     END {
@@ -176,7 +178,7 @@ if [ -z "$RUN" ]; then
     counter="valgrind's callgrind"
 else
     echo "This machine is $(uname -m): the archive runs under an emulator, where times beside the second program mean nothing."
-    $RUN "$out/bench" wherryoar_run >"$out/times" || exit 1
+    $RUN "$out/bench" >"$out/times" || exit 1
     counter="a plugin of the emulator"
 fi
 if [ -z "$RUN" ] || build_counter; then
