@@ -8,7 +8,7 @@ cd "$(dirname "$0")/.." || exit 2
 archive=target/staticlib/libdoor.a
 out=$(pwd)/target/bench
 mkdir -p "$out"
-rt staticlib door >/dev/null || exit 1
+build_archive || exit 1
 $CC_ARCHIVE -std=c99 -O2 -Wall -Wextra -Wpedantic -Werror -Iinclude -Itests/second -o "$out/bench" \
     bench/bench.c tests/second/second.c "$archive" || exit 1
 

@@ -27,6 +27,7 @@ try() { # try NAME COMMAND..
 
 try archive rt staticlib door
 archive=target/staticlib/libdoor.a
+[ "$failed" -eq 0 ] && export ARCHIVE_BUILT=1
 
 # The header by itself, as C99 and as C++11.
 echo '#include "wherryoar.h"' >"$out/header.c"

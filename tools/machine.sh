@@ -24,3 +24,8 @@ x86_64)
     RUN_PROGRAM="qemu-x86_64 -L /usr/x86_64-linux-gnu"
     ;;
 esac
+
+# Builds the archive, unless the caller has just done so and says so by ARCHIVE_BUILT.
+build_archive() {
+    [ -n "${ARCHIVE_BUILT:-}" ] || rt staticlib door >/dev/null
+}

@@ -5,6 +5,6 @@ cd "$(dirname "$0")/.." || exit 2
 . tools/machine.sh
 need python3 python3 || exit 2
 archive=target/staticlib/libdoor.a
-rt staticlib door >/dev/null || exit 1
+build_archive || exit 1
 [ $# -gt 0 ] || set -- wherryoar_sample wherryoar_run
 python3 tools/stack.py "$OBJDUMP" "$archive" "$@"
