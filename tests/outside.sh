@@ -6,27 +6,12 @@
 set -u
 cd "$(dirname "$0")/.." || exit 2
 . tools/machine.sh
-passed=0
-failed=0
+. tests/try.sh
 out=$(pwd)/target/outside
 rm -rf "$out"
 mkdir -p "$out/captures" "$out/wires" "$out/sigrok" "$out/inputs"
 export PYTHONDONTWRITEBYTECODE=1
 export ASAN_OPTIONS=detect_leaks=0 # a leak check takes seconds a process on some machines; it is on where memory is allocated
-
-try() { # try NAME COMMAND..
-    name=$1
-    from=$(date +%s)
-    shift
-    if "$@" >"$out/$name.log" 2>&1; then
-        passed=$((passed + 1))
-        echo "test $name: passed ($(($(date +%s) - from)) s) $(tail -n 1 "$out/$name.log")"
-    else
-        failed=$((failed + 1))
-        echo "test $name: FAILED"
-        tail -n 20 "$out/$name.log"
-    fi
-}
 
 # ---- What is needed: what cannot be had fails, it is not passed over ----
 

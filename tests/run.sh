@@ -3,27 +3,13 @@
 set -u
 cd "$(dirname "$0")/.." || exit 2
 . tools/machine.sh
-passed=0
-failed=0
+. tests/try.sh
 out=$(pwd)/target/tests
 mkdir -p "$out"
 strict="-Wall -Wextra -Wpedantic -Werror"
 steps=20000000 mutations=4000000 dense=20000000
 [ -z "$RUN" ] || steps=1000000 mutations=1000000 dense=3000000 # an emulator is slow
 door="-Iinclude -Itests -Itests/second -DDOOR_PREFIX=wherryoar_ -DDOOR_HEADER=\"wherryoar.h\""
-
-try() { # try NAME COMMAND..
-    local name=$1 from=$SECONDS
-    shift
-    if "$@" >"$out/$name.log" 2>&1; then
-        passed=$((passed + 1))
-        echo "test $name: passed ($((SECONDS - from)) s) $(tail -n 1 "$out/$name.log")"
-    else
-        failed=$((failed + 1))
-        echo "test $name: FAILED"
-        tail -n 20 "$out/$name.log"
-    fi
-}
 
 try archive rt staticlib door
 archive=target/staticlib/libdoor.a
