@@ -3,12 +3,11 @@
 use Prim.Native.Nat.{ℕ, _+_, _%_, _<_, _≤_}
 use mathlib.Core.Path.{_≡_, refl, sym, ap, ap₂, subst, _∙_}
 use mathlib.Core.Bool.{Bool, true, false, Bool·beq, cond, _&&_, _||_, not}
-use lib.Dec.{ltb, leb}
+use lib.Dec.{ltb}
 use borrow.Author.Tests.{lt-ltb, le-ltb}
 use Rattle.truth.specs.Tests.{never}
 use Rattle.wire.specs.declared.Bits.{Bits}
 use Rattle.wire.specs.declared.Remembered.the-variants.{Wire}
-use Rattle.wire.specs.Byte.{whole}
 use Rattle.wire.specs.Wire.{sclOf, sdaOf, onWire, condition, edgeFrom}
 use Rattle.stretch.specs.declared.Seen.{Seen}
 use Rattle.stretch.specs.Seen.{seenOn, endedBy, ends, takenAt, placeAt}
@@ -61,7 +60,7 @@ taken-again b w false sda = refl
 pub taking-again : (p : Bits × Seen) (item : ℕ) → item ≤ 3 → Idle takingStops takingGoes (takingGoes p item) item
 taking-again p item h =
     let scl : Bool = sclOf item in let sda : Bool = sdaOf item in let b : Bits = takenAt (p .0) (p .1) scl sda in
-    (level-still item h (p .1) scl sda false (whole b), ap₂ (λ (x : Bits) (y : Seen). (x, y)) (taken-again b (p .1) scl sda) (seen-again (p .1) scl sda))
+    (level-still item h (p .1) scl sda _ _, ap₂ (λ (x : Bits) (y : Seen). (x, y)) (taken-again b (p .1) scl sda) (seen-again (p .1) scl sda))
 
 pub resting-again :
     (holds pulls rise fall : Bool) (w : Seen) (item : ℕ) → item ≤ 3
@@ -86,4 +85,4 @@ sending-again byte p item h f =
     let place : ℕ = p .0 in let w : Seen = p .1 in let scl : Bool = sclOf item in
     let sda : Bool = sentLevel byte place item in
     subst (λ (x : ℕ). Idle (sendingStops byte) (sendingGoes byte) (x, seenOn w scl sda) item) (sym (place-stays place (w .scl) scl f))
-    (level-still item h w scl sda false (leb 7 place), ap₂ (λ (x : ℕ) (y : Seen). (x, y)) (placed-again place w scl sda) (seen-again w scl sda))
+    (level-still item h w scl sda _ _, ap₂ (λ (x : ℕ) (y : Seen). (x, y)) (placed-again place w scl sda) (seen-again w scl sda))

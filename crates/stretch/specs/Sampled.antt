@@ -104,35 +104,19 @@ pub record Sampled (c : Config) (l : Live) (ph : Phase) (w : Seen) (item : ℕ) 
   pub leaves : sampled (placed c l ph w) (sclOf item) (sdaOf item) ≡ placed c l ph′ w′
 
 module _ (c : Config) (enabled : c .sspen ≡ true) (l : Live) where
-  address-goes :
-      (p : Bits × Seen) (item : ℕ) → takingStops p item ≡ false
-      → Sampled c l (Address (p .0)) (p .1) item (Address (takingGoes p item .0)) (takingGoes p item .1)
-  address-goes p item h =
-      let b : Bits = p .0 in let w : Seen = p .1 in
-      let k = level-goes item h in
-      record {
-        level = k .0;
-        leaves =
-            ap (λ (t : Bool). seenIf t (placed c l (Address b) w) (sclOf item) (sdaOf item)) enabled
-            ∙ goes c l (Address b) false (whole b) (λ (sda : Bool). Address (pushed b sda)) (Address b) (λ e sda. refl)
-            (λ e. ap (λ (t : Bool). addressFallIf t c l b) e) (w .mark) (w .scl) (w .sda) (sclOf item) (sdaOf item) (k .1)
-            ∙ ap (λ (ph : Phase). placed c l ph (takingGoes p item .1)) (taken-phase (λ (x : Bits). Address x) b (w .scl) (sclOf item) (sdaOf item));
-      }
-
-  data-goes :
-      (p : Bits × Seen) (item : ℕ) → takingStops p item ≡ false
-      → Sampled c l (Data (p .0) false) (p .1) item (Data (takingGoes p item .0) false) (takingGoes p item .1)
-  data-goes p item h =
-      let b : Bits = p .0 in let w : Seen = p .1 in
-      let k = level-goes item h in
-      record {
-        level = k .0;
-        leaves =
-            ap (λ (t : Bool). seenIf t (placed c l (Data b false) w) (sclOf item) (sdaOf item)) enabled
-            ∙ goes c l (Data b false) false (whole b) (λ (sda : Bool). Data (pushed b sda) false) (Data b false) (λ e sda. refl)
-            (λ e. ap (λ (t : Bool). dataFallIf t c l b false) e) (w .mark) (w .scl) (w .sda) (sclOf item) (sdaOf item) (k .1)
-            ∙ ap (λ (ph : Phase). placed c l ph (takingGoes p item .1)) (taken-phase (λ (x : Bits). Data x false) b (w .scl) (sclOf item) (sdaOf item));
-      }
+  -- The bits of an address and of data move alike.
+  taken-goes :
+      (ph : Bits → Phase) (p : Bits × Seen) (item : ℕ)
+      → ((sda : Bool) → edgeStep c l (ph (p .0)) (Rise sda) ≡ l at ph (pushed (p .0) sda))
+      → (whole (p .0) ≡ false → edgeStep c l (ph (p .0)) Fall ≡ l at ph (p .0))
+      → ends (p .1) (sclOf item) (sdaOf item) false (whole (p .0)) ≡ false
+      → seenIf (c .sspen) (placed c l (ph (p .0)) (p .1)) (sclOf item) (sdaOf item)
+      ≡ placed c l (ph (takingGoes p item .0)) (takingGoes p item .1)
+  taken-goes ph p item rises falls h =
+      let b : Bits = p .0 in let w : Seen = p .1 in let scl : Bool = sclOf item in let sda : Bool = sdaOf item in
+      ap (λ (t : Bool). seenIf t (placed c l (ph b) w) scl sda) enabled
+      ∙ goes c l (ph b) false (whole b) (λ (x : Bool). ph (pushed b x)) (ph b) (λ e. rises) falls (w .mark) (w .scl) (w .sda) scl sda h
+      ∙ ap (λ (x : Phase). placed c l x (takingGoes p item .1)) (taken-phase ph b (w .scl) scl sda)
 
   pub sending-goes :
       (byte : ℕ) (p : ℕ × Seen) (item : ℕ) → sendingStops byte p item ≡ false
@@ -155,9 +139,19 @@ module _ (c : Config) (enabled : c .sspen ≡ true) (l : Live) where
       (ph : Phase) → takesBits ph ≡ true → (p : Bits × Seen) (item : ℕ) → takingStops p item ≡ false
       → Sampled c l (withBits ph (p .0)) (p .1) item (withBits ph (takingGoes p item .0)) (takingGoes p item .1)
   bits-go Quiet t p item h = never t
-  bits-go (Address bits) t p item h = address-goes p item h
+  bits-go (Address bits) t p item h =
+      let k = level-goes item h in
+      record {
+        level = k .0;
+        leaves = taken-goes (λ (b : Bits). Address b) p item (λ sda. refl) (λ e. ap (λ (x : Bool). addressFallIf x c l (p .0)) e) (k .1);
+      }
   bits-go (Data bits true) t p item h = never t
-  bits-go (Data bits false) t p item h = data-goes p item h
+  bits-go (Data bits false) t p item h =
+      let k = level-goes item h in
+      record {
+        level = k .0;
+        leaves = taken-goes (λ (b : Bits). Data b false) p item (λ sda. refl) (λ e. ap (λ (x : Bool). dataFallIf x c l (p .0) false) e) (k .1);
+      }
   bits-go (HeldBefore refused) t p item h = never t
   bits-go (Slot pulling) t p item h = never t
   bits-go HeldForSending t p item h = never t

@@ -26,7 +26,8 @@ use Rattle.stretch.specs.declared.Seen.{Seen}
 use Rattle.stretch.specs.declared.Stretch.{Stretch}
 use Rattle.stretch.specs.Walk.{walked, steps}
 use Rattle.mssp.specs.Drivers.{sclPulled, sdaPulled, isSending}
-use Rattle.stretch.specs.Stretch.{takesBits, bitsOf, withBits, riseRule, fallRule, stretchBy, takingStops, takingGoes, sendingStops, sendingGoes, restingStops, restingGoes, phaseStretch, stretchFrom, stretchOf, stretch-within}
+use Rattle.stretch.specs.Stretch.{takesBits, bitsOf, withBits, riseRule, fallRule, stretchBy, takingStops, takingGoes, sendingStops, sendingGoes, restingStops, restingGoes, phaseStretch, stretchFrom, stretchOf}
+use Rattle.stretch.specs.Theorems.{stretch-within}
 use Rattle.stretch.specs.Sampled.{placed, Sampled, bits-go, sending-goes, rest-goes}
 use Rattle.firmware.specs.declared.Handler.{Handler}
 use Rattle.firmware.specs.declared.State.{State}

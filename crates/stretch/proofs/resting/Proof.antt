@@ -4,7 +4,7 @@ use borrow.Author.Needs.{needs}
 use Prim.Native.Nat.{_-_}
 use native.Mathlib.Omega.{arith}
 use lib.ListN.{length}
-use Rattle.stretch.specs.Walk.{Walking, walk-begins, walk-over, walk-stops, walk-out}
+use Rattle.stretch.specs.Walking.{Walking, walk-begins, walk-over, walk-stops, walk-out}
 use Rattle.stretch.specs.Stretch.{restingStops, restingGoes, restedOf}
 use Rattle.stretch.specs.Laws.{no-level, by-level, resting-again}
 use Rattle.stretch.proofs.resting.Statement.{statement}

@@ -6,7 +6,7 @@ use mathlib.Core.Path.{ap₂}
 use native.Mathlib.Omega.{arith}
 use lib.ListN.{length}
 use borrow.Author.Tests.{not-true}
-use Rattle.stretch.specs.Walk.{Walking, walk-begins, walk-on, walk-over, walk-stops, walk-out}
+use Rattle.stretch.specs.Walking.{Walking, walk-begins, walk-on, walk-over, walk-stops, walk-out}
 use Rattle.stretch.specs.Stretch.{sendingStops, sendingGoes, sentOf}
 use Rattle.stretch.specs.Laws.{no-level, by-level, sending-again}
 use Rattle.stretch.proofs.sending.Statement.{statement}

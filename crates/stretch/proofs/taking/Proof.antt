@@ -5,7 +5,7 @@ use Prim.Native.Nat.{_-_}
 use mathlib.Core.Path.{ap₂}
 use native.Mathlib.Omega.{arith}
 use lib.ListN.{length}
-use Rattle.stretch.specs.Walk.{Walking, walk-begins, walk-over, walk-stops, walk-out}
+use Rattle.stretch.specs.Walking.{Walking, walk-begins, walk-over, walk-stops, walk-out}
 use Rattle.stretch.specs.Stretch.{takingStops, takingGoes, takenOf}
 use Rattle.stretch.specs.Laws.{no-level, by-level, taking-again}
 use Rattle.stretch.proofs.taking.Statement.{statement}
