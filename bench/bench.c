@@ -210,8 +210,8 @@ static int put_level(uint8_t item, FILE *file)
     return wherryoar_sample(image, IMAGE, item).refusal == 0 && putc(wherryoar_look(image, IMAGE).wire, file) != EOF;
 }
 
-/* Writes the wire of the capture that is timed, a byte for each level; prints the capture's items and pairs of messages. */
-static int write_wire(unsigned per_clock, const char *name)
+/* Writes the wire of a capture of so many items, a byte for each level; prints the capture's items and pairs of messages. */
+static int write_wire(unsigned per_clock, size_t items, const char *name)
 {
     FILE *file = per_clock < 2 ? NULL : fopen(name, "wb");
     int fine = file != NULL && wherryoar_setup(image, IMAGE, ADD, N).refusal == 0;
@@ -219,7 +219,7 @@ static int write_wire(unsigned per_clock, const char *name)
 
     if (!fine)
         return 2;
-    make_capture(per_clock, TIMED);
+    make_capture(per_clock, items);
     memset(memory, 0, N);
     for (i = 0; i < length && fine; i++)
         fine = put_level(trace[i], file);
@@ -228,15 +228,17 @@ static int write_wire(unsigned per_clock, const char *name)
     return fine ? 0 : 1;
 }
 
-/* Without arguments: times. wire, samples per clock and a file: the wire goes to the file. A function's name, samples per
-   clock and a number of times: the capture is fed that often. */
+/* Without arguments: times. timed_wire or counted_wire, samples per clock and a file: the wire of the capture that is timed or
+   counted goes to the file. A function's name, samples per clock and a number of times: the capture is fed that often. */
 int main(int argc, char **argv)
 {
     unsigned per_clock = argc == 4 ? (unsigned)strtoul(argv[2], NULL, 10) : 0;
 
     if (argc == 1)
         return time_all();
-    if (argc == 4 && strcmp(argv[1], "wire") == 0)
-        return write_wire(per_clock, argv[3]);
+    if (argc == 4 && strcmp(argv[1], "timed_wire") == 0)
+        return write_wire(per_clock, TIMED, argv[3]);
+    if (argc == 4 && strcmp(argv[1], "counted_wire") == 0)
+        return write_wire(per_clock, COUNTED, argv[3]);
     return argc == 4 ? feed_times(argv[1], per_clock, (unsigned)strtoul(argv[3], NULL, 10)) : 2;
 }
