@@ -16,11 +16,11 @@ use Rattle.mssp.specs.Module.{moduleOf, chosen, liveOf}
 use Rattle.sampling.specs.Rules.{edgeStep}
 use Rattle.memory.specs.Memory.{memoryOf}
 use Rattle.firmware.specs.Handler.{stateOf, handlerOf}
-use Rattle.plain.specs.declared.Heard.{Heard}
-use Rattle.plain.specs.declared.Heard.the-variants.{Silence, Started}
-use Rattle.plain.specs.declared.Place.the-variants.{Idle}
+use Rattle.reader.specs.declared.Heard.{Heard}
+use Rattle.reader.specs.declared.Heard.the-variants.{Silence, Started}
+use Rattle.reader.specs.declared.Place.the-variants.{Idle}
 use Rattle.plain.specs.declared.Turn.the-variants.{Off}
-use Rattle.plain.specs.Reader.{readerOf, placeAfter, heardAt}
+use Rattle.reader.specs.Reader.{readerOf, placeAfter, heardAt}
 use Rattle.plain.specs.Device.{plainOf, hears}
 use Rattle.agreement.specs.Joint.{Item, sample, call, Joint, held, pulled, memory, beforeAfter, ninthAfter, step, run, afresh}
 

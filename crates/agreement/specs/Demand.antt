@@ -15,7 +15,7 @@ use Rattle.memory.specs.Memory.{Memory, memoryOf}
 use Rattle.firmware.specs.declared.State.{State}
 use Rattle.firmware.specs.declared.Made.the-variants.{Ready}
 use Rattle.firmware.specs.Handler.{setupOf, called}
-use Rattle.plain.specs.declared.Reader.{Reader}
+use Rattle.reader.specs.declared.Reader.{Reader}
 use Rattle.plain.specs.Device.{Plain, owes}
 use Rattle.agreement.specs.Joint.{Item, Joint, held, pulled, memory, handlerRuns, run, afresh, Agrees}
 use Rattle.agreement.specs.Simulation.{Rel, resting, foreign, refused, passing, addressing, ours-low, ours-high, byte-low, byte-high, held-ours, held-byte, taking, held-load, sent-low, sent-high, asked-low, asked-high, run-kept, begins}

@@ -13,11 +13,11 @@ use Rattle.sampling.specs.Rules.{seen}
 use Rattle.memory.specs.Memory.{Memory, memoryOf}
 use Rattle.firmware.specs.declared.State.{State}
 use Rattle.firmware.specs.Handler.{Served, stateOf, handlerOf, called}
-use Rattle.plain.specs.declared.Reader.{Reader}
-use Rattle.plain.specs.declared.Heard.{Heard}
-use Rattle.plain.specs.declared.Heard.the-variants.{Silence, Started, Stopped, Byte}
+use Rattle.reader.specs.declared.Reader.{Reader}
+use Rattle.reader.specs.declared.Heard.{Heard}
+use Rattle.reader.specs.declared.Heard.the-variants.{Silence, Started, Stopped, Byte}
 use Rattle.plain.specs.declared.Turn.the-variants.{Off}
-use Rattle.plain.specs.Reader.{heardAt, readerAfter, readerAfresh}
+use Rattle.reader.specs.Reader.{heardAt, readerAfter, readerAfresh}
 use Rattle.plain.specs.Device.{Plain, plainOf, hears, owes}
 
 -- An item: what everybody else drives, SCL and SDA; or a handler call.

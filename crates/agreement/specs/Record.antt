@@ -4,7 +4,7 @@ use Prim.Native.Nat.{ℕ}
 use mathlib.Core.Path.{_≡_, refl}
 use mathlib.Core.List.{List, [], _∷_}
 use Rattle.wire.specs.Wire.{onWire}
-use Rattle.plain.specs.Record.{Level, level, readAll}
+use Rattle.reader.specs.Record.{Level, level, readAll}
 use Rattle.agreement.specs.Joint.{Item, sample, call, Joint, held, pulled, step, run}
 
 -- What the wire shows during a joint run: a level for each sample, none for a handler call.

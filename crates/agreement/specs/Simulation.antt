@@ -34,13 +34,13 @@ use Rattle.memory.specs.Memory.{Memory, memoryOf, peeked, laidOut, put}
 use Rattle.firmware.specs.declared.Handler.{Handler}
 use Rattle.firmware.specs.declared.State.{State}
 use Rattle.firmware.specs.Handler.{stateOf, handlerOf, called}
-use Rattle.plain.specs.declared.Ninth.{Ninth}
-use Rattle.plain.specs.declared.Ninth.the-variants.{Waiting, Got}
-use Rattle.plain.specs.declared.Place.{Place}
-use Rattle.plain.specs.declared.Place.the-variants.{Idle, Within, Ending}
+use Rattle.reader.specs.declared.Ninth.{Ninth}
+use Rattle.reader.specs.declared.Ninth.the-variants.{Waiting, Got}
+use Rattle.reader.specs.declared.Place.{Place}
+use Rattle.reader.specs.declared.Place.the-variants.{Idle, Within, Ending}
 use Rattle.plain.specs.declared.Turn.the-variants.{Off, Writing, Reading}
-use Rattle.plain.specs.declared.Reader.{Reader}
-use Rattle.plain.specs.Reader.{readerOf, withinFall, placeAfter, heardAt}
+use Rattle.reader.specs.declared.Reader.{Reader}
+use Rattle.reader.specs.Reader.{readerOf, withinFall, placeAfter, heardAt}
 use Rattle.plain.specs.Device.{Plain, plainOf, own, hears, owes}
 use Rattle.agreement.specs.Joint.{Item, sample, call, Joint, held, pulled, memory, beforeAfter, ninthAfter, bothSee, handlerRuns, step, run, afresh, Agrees}
 

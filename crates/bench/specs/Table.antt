@@ -15,7 +15,7 @@ use Rattle.mssp.specs.Drivers.{sdaPulled}
 use Rattle.mssp.specs.Valid.{isQuiet}
 use Rattle.sampling.specs.Rules.{sampled}
 use Rattle.registers.specs.Values.{readOf}
-use Rattle.registers.specs.Writes.{writeOf}
+use Rattle.writes.specs.Writes.{writeOf}
 use Rattle.firmware.specs.Handler.{Served, served, stateOf, handlerOf, called}
 
 -- What is done on the bench: a sample, a handler call, a register read or written.

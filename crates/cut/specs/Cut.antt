@@ -11,15 +11,15 @@ use Rattle.wire.specs.declared.Remembered.{Remembered}
 use Rattle.wire.specs.declared.Remembered.the-variants.{Nothing, Wire}
 use Rattle.wire.specs.Byte.{none}
 use Rattle.wire.specs.Wire.{edgeOf}
-use Rattle.plain.specs.declared.Ninth.{Ninth}
-use Rattle.plain.specs.declared.Place.{Place}
-use Rattle.plain.specs.declared.Place.the-variants.{Idle, Within, Ending}
-use Rattle.plain.specs.declared.Heard.{Heard}
-use Rattle.plain.specs.declared.Heard.the-variants.{Silence, Started, Stopped}
+use Rattle.reader.specs.declared.Ninth.{Ninth}
+use Rattle.reader.specs.declared.Place.{Place}
+use Rattle.reader.specs.declared.Place.the-variants.{Idle, Within, Ending}
+use Rattle.reader.specs.declared.Heard.{Heard}
+use Rattle.reader.specs.declared.Heard.the-variants.{Silence, Started, Stopped}
 use Rattle.plain.specs.declared.Turn.{Turn}
-use Rattle.plain.specs.declared.Reader.{Reader}
-use Rattle.plain.specs.Reader.{readerOf, heardAt, readerAfter, readerAfresh}
-use Rattle.plain.specs.Record.{Level, level, readOne, readAll, read-joined}
+use Rattle.reader.specs.declared.Reader.{Reader}
+use Rattle.reader.specs.Reader.{readerOf, heardAt, readerAfter, readerAfresh}
+use Rattle.reader.specs.Record.{Level, level, readOne, readAll, read-joined}
 use Rattle.plain.specs.Device.{owes}
 
 abbrev line : Remembered → Bool → Line

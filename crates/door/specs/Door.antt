@@ -11,7 +11,7 @@ use Rattle.refusals.specs.declared.Verdict.the-variants.{Done, Refused}
 use Rattle.mssp.specs.declared.Module.{Module}
 use Rattle.registers.specs.declared.Access.{Access}
 use Rattle.registers.specs.Values.{readOf}
-use Rattle.registers.specs.Writes.{writeOf}
+use Rattle.writes.specs.Writes.{writeOf}
 use Rattle.firmware.specs.declared.State.{State}
 use Rattle.firmware.specs.declared.Made.{Made}
 use Rattle.firmware.specs.declared.Made.the-variants.{Ready, Refused as NotMade}
@@ -19,8 +19,9 @@ use Rattle.firmware.specs.Handler.{stateOf, setupOf}
 use Rattle.firmware.specs.Window.{callOf, Outcome as CallOutcome}
 use Rattle.trace.specs.Run.{sampledBy}
 use Rattle.trace.specs.Window.{runInOf, Outcome as RunOutcome}
-use Rattle.finder.specs.declared.Found.{Found}
-use Rattle.finder.specs.Find.{spanOf, refusalOf, itemOf, startOf, lengthOf}
+use Rattle.found.specs.declared.Found.{Found}
+use Rattle.found.specs.Numbers.{refusalOf, itemOf, startOf, lengthOf}
+use Rattle.finder.specs.Find.{spanOf}
 use Rattle.view.specs.declared.View.{View}
 use Rattle.view.specs.View.{viewOf, noView}
 use Rattle.image.specs.Image.{imageLength, encodeOf, decodeOf}

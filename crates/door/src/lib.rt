@@ -98,7 +98,7 @@ pub extern "C" fn wherryoar_write(state: &mut [u8], number: u8, value: u8) -> An
         Decoded::NoImage => refuse(Refusal::NoState, 0),
         Decoded::Valid(s) => {
             let m = s.mssp;
-            let written = registers::write(m, number, value);
+            let written = writes::write(m, number, value);
             let next = written.mssp;
             let verdict = written.verdict;
             settle(state, verdict, 0, State { mssp: next, ..s })
@@ -178,10 +178,10 @@ pub extern "C" fn wherryoar_find(levels: &[u8], item: u64) -> Part
     ensures { λ r. ⌜ r ≡ doorFind (now (levels .entry)) item ⌝ }
 {
     let found = finder::span(levels, item);
-    let refusal = finder::refusal_number(found);
-    let bad = finder::bad_item(found);
-    let start = finder::start_of(found);
-    let length = finder::length_of(found);
+    let refusal = found::refusal_number(found);
+    let bad = found::bad_item(found);
+    let start = found::start_of(found);
+    let length = found::length_of(found);
     Part {
         refusal: refusal as u32,
         item: bad,

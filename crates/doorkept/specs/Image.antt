@@ -20,7 +20,7 @@ use Rattle.mssp.specs.declared.Module.{Module}
 use Rattle.mssp.specs.Valid.{valid, clauses, test, Valid as ValidModule}
 use Rattle.registers.specs.declared.Access.{Access}
 use Rattle.registers.specs.Values.{readOf}
-use Rattle.registers.specs.Writes.{writeOf}
+use Rattle.writes.specs.Writes.{writeOf}
 use Rattle.kept.specs.Kept.{sample-kept, access-read-kept, access-write-kept}
 use Rattle.firmware.specs.declared.Handler.{Handler}
 use Rattle.firmware.specs.declared.State.{State}

@@ -6,7 +6,8 @@ use mathlib.Core.Bool.{Bool, true, _&&_}
 use mathlib.Core.List.{List, [], _∷_}
 use Rattle.finder.specs.Messages.{lineBefore, edgeAt, placeAt, endFrom}
 use Rattle.items.specs.First.{span}
-use Rattle.finder.specs.Find.{spanOf, refusalOf, itemOf, startOf, lengthOf}
+use Rattle.found.specs.Numbers.{refusalOf, itemOf, startOf, lengthOf}
+use Rattle.finder.specs.Find.{spanOf}
 
 -- A record, an item, and the answer's four numbers: refusal, bad item, start, length.
 abbrev Case : Type 0

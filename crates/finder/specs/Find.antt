@@ -8,11 +8,11 @@ use lib.ListN.{length, take, drop}
 use lib.Dec.{ltb}
 use Rattle.items.specs.First.{firstAbove}
 use Rattle.refusals.specs.declared.Refusal.the-variants.{NoItem, PastRecord}
-use Rattle.refusals.specs.Numbers.{numberOf}
 use Rattle.finder.specs.declared.Place.{Place}
 use Rattle.finder.specs.declared.Place.the-variants.{Outside, Inside}
-use Rattle.finder.specs.declared.Found.{Found}
-use Rattle.finder.specs.declared.Found.the-variants.{Part, Refused}
+use Rattle.found.specs.declared.Found.{Found}
+use Rattle.found.specs.declared.Found.the-variants.{Part, Refused}
+use Rattle.found.specs.Numbers.{startOf, lengthOf}
 use Rattle.finder.specs.Messages.{placeAt, endAt}
 
 -- The number of the first level above 3; the record's length where there is none.
@@ -35,24 +35,6 @@ spanIf false true levels item = messagePart levels item
 
 unfoldable pub spanOf : List ℕ → ℕ → Found
 spanOf levels item = spanIf (ltb (firstBad levels) (length levels)) (ltb item (length levels)) levels item
-
--- The paper's numbers of an answer: the refusal (0 for none), the item beside it, and the part's start and length. A
--- refused call has the empty part at 0.
-abbrev pub refusalOf : Found → ℕ
-refusalOf (Part start count) = 0
-refusalOf (Refused why item) = numberOf why
-
-abbrev pub itemOf : Found → ℕ
-itemOf (Part start count) = 0
-itemOf (Refused why item) = item
-
-abbrev pub startOf : Found → ℕ
-startOf (Part start count) = start
-startOf (Refused why item) = 0
-
-abbrev pub lengthOf : Found → ℕ
-lengthOf (Part start count) = count
-lengthOf (Refused why item) = 0
 
 -- The items of the part.
 abbrev pub partOf : List ℕ → Found → List ℕ

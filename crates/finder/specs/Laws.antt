@@ -15,11 +15,12 @@ use Rattle.wire.specs.Wire.{isStart}
 use Rattle.finder.specs.declared.Place.{Place}
 use Rattle.finder.specs.declared.Place.the-variants.{Outside, Inside}
 use Rattle.finder.specs.declared.Reading.{Reading}
-use Rattle.finder.specs.declared.Found.{Found}
-use Rattle.finder.specs.declared.Found.the-variants.{Part, Refused}
+use Rattle.found.specs.declared.Found.{Found}
+use Rattle.found.specs.declared.Found.the-variants.{Part, Refused}
 use Rattle.finder.specs.Messages.{levelAt, lineBefore, edgeAt, isStop, startAt, stopBefore, pastEnd, placeAt, endFrom, endAt}
 use Rattle.finder.specs.Reader.{unread, readOn, readingBefore}
-use Rattle.finder.specs.Find.{firstBad, partFrom, messagePart, spanIf, spanOf, startOf, lengthOf, partOf, partPlace}
+use Rattle.found.specs.Numbers.{startOf, lengthOf}
+use Rattle.finder.specs.Find.{firstBad, partFrom, messagePart, spanIf, spanOf, partOf, partPlace}
 use Rattle.finder.specs.Extent.{whole-message}
 
 -- The reading after an item is the one before the next.

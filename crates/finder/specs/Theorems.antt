@@ -16,7 +16,7 @@ use Rattle.refusals.specs.declared.Refusal.{Refusal}
 use Rattle.refusals.specs.declared.Refusal.the-variants.{NoItem, PastRecord}
 use Rattle.finder.specs.declared.Place.{Place}
 use Rattle.finder.specs.declared.Place.the-variants.{Outside, Inside}
-use Rattle.finder.specs.declared.Found.the-variants.{Part, Refused}
+use Rattle.found.specs.declared.Found.the-variants.{Part, Refused}
 use Rattle.finder.specs.Messages.{levelAt, placeAt, endAt, IsMessage}
 use Rattle.items.specs.First.{span}
 use Rattle.finder.specs.Find.{firstBad, partFrom, messagePart, spanOf}

@@ -5,7 +5,8 @@ ghost use lib.ListN.{length};
 ghost use denote.Ref.{ptr};
 ghost use Rattle.finder.specs.Messages.{isStop, placed, endAt};
 ghost use Rattle.finder.specs.Reader.{unread, readOn, readingBefore};
-ghost use Rattle.finder.specs.Find.{messagePart, spanOf, refusalOf, itemOf, startOf, lengthOf, partOf, partPlace};
+ghost use Rattle.finder.specs.Find.{messagePart, spanOf, partOf, partPlace};
+use found::Found;
 use refusals::Refusal;
 use wire::Edge;
 use wire::Line;
@@ -22,12 +23,6 @@ pub struct Reading {
     pub line: Line,
     pub edge: Edge,
     pub place: Place,
-}
-
-// The answer: a part's start and length, or why there is none and the item beside the refusal.
-pub enum Found {
-    Part(u64, u64),
-    Refused(Refusal, u64),
 }
 
 fn is_stop(e: Edge) -> bool
@@ -151,53 +146,13 @@ pub fn span(levels: &[u8], item: u64) -> Found
     message_part(levels, at)
 }
 
-// The refusal's number, 0 where there is none.
-pub fn refusal_number(found: Found) -> u8
-    ensures { λ r. ⌜ r ≡ refusalOf found ⌝ }
-{
-    match found {
-        Found::Part(_, _) => 0,
-        Found::Refused(why, _) => refusals::number(why),
-    }
-}
-
-// The item's number beside a refusal, else 0.
-pub fn bad_item(found: Found) -> u64
-    ensures { λ r. ⌜ r ≡ itemOf found ⌝ }
-{
-    match found {
-        Found::Part(_, _) => 0,
-        Found::Refused(_, item) => item,
-    }
-}
-
-// Where the part starts, 0 after a refusal.
-pub fn start_of(found: Found) -> u64
-    ensures { λ r. ⌜ r ≡ startOf found ⌝ }
-{
-    match found {
-        Found::Part(start, _) => start,
-        Found::Refused(_, _) => 0,
-    }
-}
-
-// How many items the part has, 0 after a refusal.
-pub fn length_of(found: Found) -> u64
-    ensures { λ r. ⌜ r ≡ lengthOf found ⌝ }
-{
-    match found {
-        Found::Part(_, count) => count,
-        Found::Refused(_, _) => 0,
-    }
-}
-
 // The message that an item lies in, as a part of the record itself.
 pub fn find(levels: &[u8], item: u64) -> &[u8]
     ensures { λ r. ⌜ now r ≡ partOf (now (levels .entry)) (spanOf (now (levels .entry)) item) ⌝ }
     ensures { λ r. ⌜ ptr r ≡ partPlace (ptr (levels .entry)) (spanOf (now (levels .entry)) item) ⌝ }
 {
     let found = span(levels, item);
-    let start = start_of(found) as usize;
-    let end = start + (length_of(found) as usize);
+    let start = found::start_of(found) as usize;
+    let end = start + (found::length_of(found) as usize);
     &levels[start..end]
 }

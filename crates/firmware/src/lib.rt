@@ -52,7 +52,7 @@ pub fn set_up(add: u8, n: u64) -> Made
 }
 
 // SSPIF is cleared.
-pub fn acknowledge(s: State) -> State
+fn acknowledge(s: State) -> State
     ensures { λ r. ⌜ r ≡ acknowledged s ⌝ }
 {
     let mut t = s;
@@ -61,7 +61,7 @@ pub fn acknowledge(s: State) -> State
 }
 
 // A write address: BUF is read, a pointer is due, the hold ends.
-pub fn address(s: State) -> State
+fn address(s: State) -> State
     ensures { λ r. ⌜ r ≡ addressed s ⌝ }
 {
     let m = s.mssp;
@@ -74,7 +74,7 @@ pub fn address(s: State) -> State
 }
 
 // Sending: after a read address BUF is read first; the byte at the pointer is loaded, and the hold ends.
-pub fn send(s: State, window: &[u8]) -> State
+fn send(s: State, window: &[u8]) -> State
     ensures { λ r. ⌜ r ≡ sent s (now (window .entry)) ⌝ }
 {
     let m = s.mssp;
@@ -89,7 +89,7 @@ pub fn send(s: State, window: &[u8]) -> State
 }
 
 // A data byte: the pointer where one is due, else stored; BUF is read, the hold ends.
-pub fn take(s: State, window: &mut [u8]) -> State
+fn take(s: State, window: &mut [u8]) -> State
     ensures { λ r. ⌜ served r (now (window .exit)) ≡ taken s (now (window .entry)) ⌝ }
 {
     let m = s.mssp;

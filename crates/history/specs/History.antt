@@ -8,7 +8,7 @@ use Rattle.wire.specs.Wire.{sclOf, sdaOf}
 use Rattle.mssp.specs.declared.Module.{Module}
 use Rattle.sampling.specs.Rules.{sampled}
 use Rattle.registers.specs.Values.{readOf}
-use Rattle.registers.specs.Writes.{writeOf}
+use Rattle.writes.specs.Writes.{writeOf}
 use Rattle.history.specs.declared.Item.{Item}
 use Rattle.history.specs.declared.Item.the-variants.{Sample, Read, Write, Nothing}
 

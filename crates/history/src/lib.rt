@@ -15,7 +15,7 @@ pub enum Item {
 }
 
 // An item as a number: 0 to 3 a sample, 10000 + 100 × R a read, 20000 + 100 × R + V a write (hex); any other is none.
-pub fn item_of(code: u32) -> Item
+fn item_of(code: u32) -> Item
     ensures { λ r. ⌜ r ≡ itemOf code ⌝ }
 {
     let number = (code / 256 % 256) as u8;
@@ -32,7 +32,7 @@ pub fn item_of(code: u32) -> Item
 }
 
 // One item. A refused access changes nothing.
-pub fn apply(m: Module, item: Item) -> Module
+fn apply(m: Module, item: Item) -> Module
     ensures { λ r. ⌜ r ≡ done m item ⌝ }
 {
     match item {
@@ -42,7 +42,7 @@ pub fn apply(m: Module, item: Item) -> Module
             answer.mssp
         }
         Item::Write(number, value) => {
-            let answer = registers::write(m, number, value);
+            let answer = writes::write(m, number, value);
             answer.mssp
         }
         Item::Nothing => m,

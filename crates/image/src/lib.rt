@@ -1,5 +1,5 @@
 // A state as its image of 48 bytes, and back: what C holds of a state is its image, and each state has one.
-pub mod handler_part;
+mod handler_part;
 
 ghost use mathlib.Core.Path.{_≡_};
 ghost use lib.ListN.{length};
@@ -16,7 +16,7 @@ pub enum Decoded {
 }
 
 // The module's part, the handler's, and zeros.
-pub fn encode(s: State) -> [u8; IMAGE_LENGTH]
+fn encode(s: State) -> [u8; IMAGE_LENGTH]
     ensures { λ r. ⌜ r ≡ encodeOf s ⌝ }
 {
     let module = module_image::module_part(s.mssp);
@@ -39,7 +39,7 @@ fn parse(bytes: &[u8]) -> State
 }
 
 // The module's clauses and the handler's.
-pub fn is_valid(s: State) -> bool
+fn is_valid(s: State) -> bool
     ensures { λ r. ⌜ r ≡ validState s ⌝ }
 {
     validity::module_valid(s.mssp) & handler_part::handler_valid(s.handler)

@@ -27,7 +27,7 @@ use Rattle.sampling.specs.Rules.{seen, seenIf, sampled}
 use Rattle.registers.specs.declared.Register.{Register}
 use Rattle.registers.specs.declared.Register.the-variants.{Buf, Stat, Con1, Con2, Con3, Add, Msk, Flag, Nowhere}
 use Rattle.registers.specs.Values.{registerOf, afterRead, readOf}
-use Rattle.registers.specs.Writes.{con1Config, con1Stored, con1Then, written, verdictOf, writeOf}
+use Rattle.writes.specs.Writes.{con1Config, con1Stored, con1Then, written, verdictOf, writeOf}
 use Rattle.kept.specs.Edges.{edge-stepped, rise-short, eight-kept, mark-kept}
 
 -- ---- set-up

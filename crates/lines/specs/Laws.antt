@@ -16,9 +16,9 @@ use Rattle.firmware.specs.declared.State.{State}
 use Rattle.firmware.specs.declared.Made.{Made}
 use Rattle.firmware.specs.declared.Made.the-variants.{Ready}
 use Rattle.firmware.specs.Handler.{setupOf, Served, served, called}
-use Rattle.plain.specs.Reader.{readerAfresh}
-use Rattle.plain.specs.declared.Heard.{Heard}
-use Rattle.plain.specs.declared.Heard.the-variants.{Silence, Started, Stopped, Byte}
+use Rattle.reader.specs.Reader.{readerAfresh}
+use Rattle.reader.specs.declared.Heard.{Heard}
+use Rattle.reader.specs.declared.Heard.the-variants.{Silence, Started, Stopped, Byte}
 use Rattle.lines.specs.declared.Item.{Item}
 use Rattle.lines.specs.declared.Meaning.{Meaning}
 use Rattle.lines.specs.declared.Meaning.the-variants.{Skipped, Taken, Foreign}

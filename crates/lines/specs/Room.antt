@@ -22,13 +22,13 @@ use Rattle.memory.specs.Laws.{modulo-below}
 use Rattle.firmware.specs.declared.Handler.{Handler}
 use Rattle.firmware.specs.declared.State.{State}
 use Rattle.firmware.specs.Handler.{handlerOf, memoryIn, acknowledged, serve, calledIf, called}
-use Rattle.plain.specs.declared.Ninth.the-variants.{Waiting, Got}
-use Rattle.plain.specs.declared.Place.{Place}
-use Rattle.plain.specs.declared.Place.the-variants.{Idle, Within, Ending}
-use Rattle.plain.specs.declared.Heard.{Heard}
-use Rattle.plain.specs.declared.Heard.the-variants.{Silence, Started, Stopped, Byte}
-use Rattle.plain.specs.declared.Reader.{Reader}
-use Rattle.plain.specs.Reader.{withinFall, fallPlace, risePlace, fallHeard, heardAt, readerOf, readerAfter}
+use Rattle.reader.specs.declared.Ninth.the-variants.{Waiting, Got}
+use Rattle.reader.specs.declared.Place.{Place}
+use Rattle.reader.specs.declared.Place.the-variants.{Idle, Within, Ending}
+use Rattle.reader.specs.declared.Heard.{Heard}
+use Rattle.reader.specs.declared.Heard.the-variants.{Silence, Started, Stopped, Byte}
+use Rattle.reader.specs.declared.Reader.{Reader}
+use Rattle.reader.specs.Reader.{withinFall, fallPlace, risePlace, fallHeard, heardAt, readerOf, readerAfter}
 use Rattle.lines.specs.declared.Item.{Item}
 use Rattle.lines.specs.declared.Item.the-variants.{Sample, Call}
 use Rattle.lines.specs.declared.World.{World}

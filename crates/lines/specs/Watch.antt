@@ -11,10 +11,10 @@ use Rattle.mssp.specs.Drivers.{sclPulled, sdaPulled}
 use Rattle.sampling.specs.Rules.{sampled}
 use Rattle.firmware.specs.declared.State.{State}
 use Rattle.firmware.specs.Handler.{Served, stateOf, handlerOf, called}
-use Rattle.plain.specs.declared.Reader.{Reader}
-use Rattle.plain.specs.declared.Heard.{Heard}
-use Rattle.plain.specs.declared.Heard.the-variants.{Silence}
-use Rattle.plain.specs.Reader.{heardAt, readerAfter, readerAfresh}
+use Rattle.reader.specs.declared.Reader.{Reader}
+use Rattle.reader.specs.declared.Heard.{Heard}
+use Rattle.reader.specs.declared.Heard.the-variants.{Silence}
+use Rattle.reader.specs.Reader.{heardAt, readerAfter, readerAfresh}
 use Rattle.lines.specs.declared.Item.{Item}
 use Rattle.lines.specs.declared.Item.the-variants.{Sample, Call}
 use Rattle.lines.specs.declared.World.{World}

@@ -3,7 +3,7 @@
 use Prim.Native.Nat.{ℕ}
 use mathlib.Core.Path.{_≡_, refl}
 use mathlib.Core.List.{List, []}
-use Rattle.plain.specs.declared.Heard.the-variants.{Silence}
+use Rattle.reader.specs.declared.Heard.the-variants.{Silence}
 use Rattle.lines.specs.declared.Item.{Item}
 use Rattle.lines.specs.declared.Item.the-variants.{Sample, Call}
 use Rattle.lines.specs.declared.World.{World}

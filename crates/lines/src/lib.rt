@@ -4,7 +4,7 @@ ghost use Prim.Native.Nat.{_+_, _*_, _<_, _≤_, _^_};
 ghost use mathlib.Core.Bool.{true};
 ghost use mathlib.Core.List.{[], _∷_};
 ghost use lib.ListN.{length};
-ghost use Rattle.plain.specs.Reader.{readerAfresh};
+ghost use Rattle.reader.specs.Reader.{readerAfresh};
 ghost use Rattle.lines.specs.Input.{parse, clean, itemsIn, meaningOf, isForeign, itemCount, checkedOf};
 ghost use Rattle.lines.specs.Watch.{worldOf, scene, levelSeen, callSeen, sceneAfter, worldAfresh, memoryAfresh};
 ghost use Rattle.lines.specs.Text.{hexDigit, decimal, conditionRow, byteRow, rowLine, lineOf, numbered};
@@ -12,9 +12,9 @@ ghost use Rattle.lines.specs.Page.{page, penned};
 ghost use Rattle.lines.specs.Report.{progress, itemPassed, bytePassed, linesFrom, parsedReport, reportOf};
 use firmware::Made;
 use firmware::State;
-use plain::Heard;
-use plain::Place;
-use plain::Reader;
+use reader::Heard;
+use reader::Place;
+use reader::Reader;
 use wire::Line;
 use wire::Remembered;
 
@@ -64,7 +64,7 @@ pub struct Row {
     pub ack: u8,
 }
 
-pub fn meaning_of(byte: u8) -> Meaning
+fn meaning_of(byte: u8) -> Meaning
     ensures { λ r. ⌜ r ≡ meaningOf byte ⌝ }
 {
     if (byte == b' ') | (byte == b'\n') {
@@ -102,7 +102,7 @@ fn item_count(meaning: Meaning) -> usize
 }
 
 // The items are counted, up to the first foreign byte.
-pub fn check(input: &[u8]) -> Checked
+fn check(input: &[u8]) -> Checked
     ensures { λ r. ⌜ r ≡ checkedOf (now (input .entry)) ⌝ }
 {
     let mut items = 0;
@@ -119,7 +119,7 @@ pub fn check(input: &[u8]) -> Checked
 }
 
 // A sample: the reader is fed with the wire, which is low where the sample is low or the module pulls.
-pub fn watch_sample(world: World, scl: bool, sda: bool) -> Watched
+fn watch_sample(world: World, scl: bool, sda: bool) -> Watched
     ensures { λ r. ⌜ r ≡ levelSeen world scl sda ⌝ }
 {
     let state = world.state;
@@ -131,13 +131,13 @@ pub fn watch_sample(world: World, scl: bool, sda: bool) -> Watched
     let place = reader.place;
     let wire_scl = !mssp::pulls_scl(phase) & scl;
     let wire_sda = !mssp::pulls_sda(phase) & sda;
-    let heard = plain::heard_at(place, wire::edge_of(line, wire_scl, wire_sda));
+    let heard = reader::heard_at(place, wire::edge_of(line, wire_scl, wire_sda));
     let next = World {
         state: State {
             mssp: sampling::sample(m, scl, sda),
             handler: handler,
         },
-        reader: plain::read_on(reader, wire_scl, wire_sda),
+        reader: reader::read_on(reader, wire_scl, wire_sda),
     };
     Watched {
         world: next,
@@ -146,7 +146,7 @@ pub fn watch_sample(world: World, scl: bool, sda: bool) -> Watched
 }
 
 // A handler call: the reader sees nothing of it.
-pub fn watch_call(world: World, memory: &mut [u8]) -> Watched
+fn watch_call(world: World, memory: &mut [u8]) -> Watched
     ensures { λ r. ⌜ scene r (now (memory .exit)) ≡ callSeen world (now (memory .entry)) ⌝ }
 {
     let state = world.state;
@@ -160,7 +160,7 @@ pub fn watch_call(world: World, memory: &mut [u8]) -> Watched
     }
 }
 
-pub fn watch(world: World, memory: &mut [u8], item: Item) -> Watched
+fn watch(world: World, memory: &mut [u8], item: Item) -> Watched
     ensures { λ r. ⌜ scene r (now (memory .exit)) ≡ sceneAfter world (now (memory .entry)) item ⌝ }
 {
     match item {

@@ -4,7 +4,7 @@ ghost use lib.ListN.{getD, set};
 ghost use Rattle.memory.specs.Memory.{modulo, stepped};
 
 // x modulo n; 0 where there is no memory at all.
-pub fn wrap(x: u32, n: u16) -> u16
+fn wrap(x: u32, n: u16) -> u16
     ensures { λ r. ⌜ r ≡ modulo n x ⌝ }
 {
     if n == 0 {

@@ -7,17 +7,14 @@ use mathlib.Core.List.{List, _++_}
 use mir.Val.{boolByte}
 use lib.Dec.{eqb}
 use lib.ListN.{length}
-use Rattle.wire.specs.declared.Remembered.{Remembered}
-use Rattle.wire.specs.declared.Remembered.the-variants.{Nothing, Wire}
 use Rattle.wire.specs.Byte.{bit}
 use Rattle.mssp.specs.declared.Config.{Config}
 use Rattle.mssp.specs.declared.Live.{Live}
-use Rattle.mssp.specs.declared.Phase.{Phase}
-use Rattle.mssp.specs.declared.Phase.the-variants.{Quiet, Address, Data, HeldBefore, Slot, HeldForSending, Sending, MasterAcknowledge}
 use Rattle.mssp.specs.declared.Module.{Module}
-use Rattle.registers.specs.Values.{statOf, con1Of, con2Of, con3Of}
-use Rattle.registers.specs.Bits.{bits-back}
-use Rattle.module_image.specs.ModulePart.{phaseNumber, phaseCount, phaseByte, phaseMark, phaseFrom, wireByte, wireFrom, configFrom, liveFrom, moduleLength, modulePart, moduleFrom}
+use Rattle.register_bytes.specs.Bytes.{statOf, con1Of, con2Of, con3Of}
+use Rattle.register_bytes.specs.Bits.{bits-back}
+use Rattle.phase_image.specs.Laws.{phase-back, wire-back}
+use Rattle.module_image.specs.ModulePart.{configFrom, liveFrom, moduleLength, modulePart, moduleFrom}
 
 pub part-length : (m : Module) → length (modulePart m) ≡ moduleLength
 part-length m = refl
@@ -29,23 +26,6 @@ bit-back false = refl
 pub mark-back : (b : Bool) → eqb (boolByte b) 1 ≡ b
 mark-back true = refl
 mark-back false = refl
-
-phase-back : (ph : Phase) → phaseFrom (phaseNumber ph) (phaseCount ph) (phaseByte ph) (phaseMark ph) ≡ ph
-phase-back Quiet = refl
-phase-back (Address bits) = refl
-phase-back (Data bits held) = refl
-phase-back (HeldBefore refused) = refl
-phase-back (Slot pulling) = refl
-phase-back HeldForSending = refl
-phase-back (Sending byte place) = refl
-phase-back MasterAcknowledge = refl
-
-wire-back : (seen : Remembered) → wireFrom (wireByte seen) ≡ seen
-wire-back Nothing = refl
-wire-back (Wire true true) = refl
-wire-back (Wire true false) = refl
-wire-back (Wire false true) = refl
-wire-back (Wire false false) = refl
 
 -- The eight registers as they read hold every bit of the module.
 registers-back :

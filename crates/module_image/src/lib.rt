@@ -2,127 +2,13 @@
 ghost use mathlib.Core.Path.{_≡_};
 ghost use Prim.Native.Nat.{_≤_};
 ghost use lib.ListN.{length};
-ghost use mir.Val.{boolByte};
-ghost use Rattle.module_image.specs.ModulePart.{moduleLength, phaseNumber, phaseCount, phaseByte, phaseMark, phaseFrom, wireByte, wireFrom, modulePart, configFrom, liveFrom, moduleFrom};
+ghost use Rattle.module_image.specs.ModulePart.{moduleLength, modulePart, configFrom, liveFrom, moduleFrom};
 use mssp::Config;
 use mssp::Live;
 use mssp::Module;
-use mssp::Phase;
-use wire::Bits;
 use wire::Line;
-use wire::Remembered;
 
 pub const MODULE_LENGTH: usize = 16;
-
-// The flag register as it reads.
-pub fn flag(l: Live) -> u8
-    ensures { λ r. ⌜ r ≡ boolByte (l .sspif) ⌝ }
-{
-    l.sspif as u8
-}
-
-// The number of a phase.
-pub fn phase_number(phase: Phase) -> u8
-    ensures { λ r. ⌜ r ≡ phaseNumber phase ⌝ }
-{
-    match phase {
-        Phase::Quiet => 0,
-        Phase::Address(_) => 1,
-        Phase::Data(_, _) => 2,
-        Phase::HeldBefore(_) => 3,
-        Phase::Slot(_) => 4,
-        Phase::HeldForSending => 5,
-        Phase::Sending(_, _) => 6,
-        Phase::MasterAcknowledge => 7,
-    }
-}
-
-// Bits so far, or the place of the one being sent.
-pub fn phase_count(phase: Phase) -> u8
-    ensures { λ r. ⌜ r ≡ phaseCount phase ⌝ }
-{
-    match phase {
-        Phase::Quiet => 0,
-        Phase::Address(bits) => bits.count,
-        Phase::Data(bits, _) => bits.count,
-        Phase::HeldBefore(_) => 0,
-        Phase::Slot(_) => 0,
-        Phase::HeldForSending => 0,
-        Phase::Sending(_, place) => place,
-        Phase::MasterAcknowledge => 0,
-    }
-}
-
-// The bits so far as a number, or the byte being sent.
-pub fn phase_byte(phase: Phase) -> u8
-    ensures { λ r. ⌜ r ≡ phaseByte phase ⌝ }
-{
-    match phase {
-        Phase::Quiet => 0,
-        Phase::Address(bits) => bits.value,
-        Phase::Data(bits, _) => bits.value,
-        Phase::HeldBefore(_) => 0,
-        Phase::Slot(_) => 0,
-        Phase::HeldForSending => 0,
-        Phase::Sending(byte, _) => byte,
-        Phase::MasterAcknowledge => 0,
-    }
-}
-
-// Held, refused or pulling, as the phase has it.
-pub fn phase_mark(phase: Phase) -> bool
-    ensures { λ r. ⌜ r ≡ phaseMark phase ⌝ }
-{
-    match phase {
-        Phase::Quiet => false,
-        Phase::Address(_) => false,
-        Phase::Data(_, held) => held,
-        Phase::HeldBefore(refused) => refused,
-        Phase::Slot(pulling) => pulling,
-        Phase::HeldForSending => false,
-        Phase::Sending(_, _) => false,
-        Phase::MasterAcknowledge => false,
-    }
-}
-
-pub fn phase_from(number: u8, count: u8, byte: u8, marked: bool) -> Phase
-    ensures { λ r. ⌜ r ≡ phaseFrom number count byte marked ⌝ }
-{
-    let bits = Bits {
-        count: count,
-        value: byte,
-    };
-    match number {
-        1 => Phase::Address(bits),
-        2 => Phase::Data(bits, marked),
-        3 => Phase::HeldBefore(marked),
-        4 => Phase::Slot(marked),
-        5 => Phase::HeldForSending,
-        6 => Phase::Sending(byte, count),
-        7 => Phase::MasterAcknowledge,
-        _ => Phase::Quiet,
-    }
-}
-
-// The remembered wire: 2 * SCL + SDA, or 255.
-pub fn wire_byte(remembered: Remembered) -> u8
-    ensures { λ r. ⌜ r ≡ wireByte remembered ⌝ }
-{
-    match remembered {
-        Remembered::Nothing => 255,
-        Remembered::Wire(scl, sda) => (scl as u8) * 2 + (sda as u8),
-    }
-}
-
-pub fn wire_from(byte: u8) -> Remembered
-    ensures { λ r. ⌜ r ≡ wireFrom byte ⌝ }
-{
-    if byte == 255 {
-        Remembered::Nothing
-    } else {
-        Remembered::Wire(byte / 2 % 2 == 1, byte / 1 % 2 == 1)
-    }
-}
 
 pub fn module_part(m: Module) -> [u8; MODULE_LENGTH]
     ensures { λ r. ⌜ r ≡ modulePart m ⌝ }
@@ -134,18 +20,18 @@ pub fn module_part(m: Module) -> [u8; MODULE_LENGTH]
     let remembered = line.remembered;
     [
         l.buf,
-        registers::stat(c, l),
-        registers::con1(c, l),
-        registers::con2(c, l),
-        registers::con3(c, l),
+        register_bytes::stat(c, l),
+        register_bytes::con1(c, l),
+        register_bytes::con2(c, l),
+        register_bytes::con3(c, l),
         c.add,
         c.msk,
-        flag(l),
-        phase_number(phase),
-        phase_count(phase),
-        phase_byte(phase),
-        phase_mark(phase) as u8,
-        wire_byte(remembered),
+        l.sspif as u8,
+        phase_image::phase_number(phase),
+        phase_image::phase_count(phase),
+        phase_image::phase_byte(phase),
+        phase_image::phase_mark(phase) as u8,
+        phase_image::wire_byte(remembered),
         line.mark as u8,
         0,
         0,
@@ -203,9 +89,9 @@ pub fn module_from(b: &[u8]) -> Module
     Module {
         config: config_from(b[1], b[2], b[3], b[4], b[5], b[6]),
         live: live_from(b[0], b[1], b[2], b[3], b[4], b[7]),
-        phase: phase_from(b[8], b[9], b[10], b[11] == 1),
+        phase: phase_image::phase_from(b[8], b[9], b[10], b[11] == 1),
         line: Line {
-            remembered: wire_from(b[12]),
+            remembered: phase_image::wire_from(b[12]),
             mark: b[13] == 1,
         },
     }

@@ -76,16 +76,16 @@ pub fn pick_byte(first: bool, a: u8, b: u8) -> u8
     if first { a } else { b }
 }
 
-pub fn pick_phase(first: bool, a: Phase, b: Phase) -> Phase
-    ensures { λ r. ⌜ r ≡ cond first a b ⌝ }
+pub fn pick_phase(first: bool, p: Phase, q: Phase) -> Phase
+    ensures { λ r. ⌜ r ≡ cond first p q ⌝ }
 {
-    if first { a } else { b }
+    if first { p } else { q }
 }
 
-pub fn pick_module(first: bool, a: Module, b: Module) -> Module
-    ensures { λ r. ⌜ r ≡ cond first a b ⌝ }
+pub fn pick_module(first: bool, m: Module, n: Module) -> Module
+    ensures { λ r. ⌜ r ≡ cond first m n ⌝ }
 {
-    if first { a } else { b }
+    if first { m } else { n }
 }
 
 // The clock is held.
@@ -134,7 +134,7 @@ pub fn is_sending(phase: Phase) -> bool
     }
 }
 
-pub fn is_held_for_sending(phase: Phase) -> bool
+fn is_held_for_sending(phase: Phase) -> bool
     ensures { λ r. ⌜ r ≡ heldForSending phase ⌝ }
 {
     match phase {
@@ -177,7 +177,7 @@ pub fn load(m: Module, byte: u8) -> Module
 }
 
 // Where a phase goes when CKP is set.
-pub fn release_phase(phase: Phase, ackdt: bool, buf: u8) -> Phase
+fn release_phase(phase: Phase, ackdt: bool, buf: u8) -> Phase
     ensures { λ r. ⌜ r ≡ releasedPhase ackdt buf phase ⌝ }
 {
     match phase {
@@ -225,7 +225,7 @@ pub fn disable(m: Module) -> Module
 }
 
 // Registers as after a reset, nothing remembered of the wire.
-pub fn fresh_module() -> Module
+fn fresh_module() -> Module
     ensures { λ r. ⌜ r ≡ fresh ⌝ }
 {
     Module {

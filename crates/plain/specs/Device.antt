@@ -8,11 +8,11 @@ use lib.Dec.{eqb}
 use Rattle.wire.specs.declared.Bits.{Bits}
 use Rattle.wire.specs.Byte.{bit, zeroAt}
 use Rattle.memory.specs.Memory.{Memory, memoryOf, peeked, laidOut, put}
-use Rattle.plain.specs.declared.Ninth.{Ninth}
-use Rattle.plain.specs.declared.Place.{Place}
-use Rattle.plain.specs.declared.Place.the-variants.{Idle, Within, Ending}
-use Rattle.plain.specs.declared.Heard.{Heard}
-use Rattle.plain.specs.declared.Heard.the-variants.{Silence, Started, Stopped, Byte}
+use Rattle.reader.specs.declared.Ninth.{Ninth}
+use Rattle.reader.specs.declared.Place.{Place}
+use Rattle.reader.specs.declared.Place.the-variants.{Idle, Within, Ending}
+use Rattle.reader.specs.declared.Heard.{Heard}
+use Rattle.reader.specs.declared.Heard.the-variants.{Silence, Started, Stopped, Byte}
 use Rattle.plain.specs.declared.Turn.{Turn}
 use Rattle.plain.specs.declared.Turn.the-variants.{Off, Writing, Reading}
 use Rattle.plain.specs.declared.Device.{Device}

@@ -1,3 +1,1 @@
-pub mod Reader
 pub mod Device
-pub mod Record

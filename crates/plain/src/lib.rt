@@ -1,40 +1,12 @@
-// The plain reader, which sees the wire and nothing else, and the plain device that it feeds: a memory with a pointer.
+// The plain device, a memory with a pointer, fed with what the plain reader of the wire hears.
 ghost use mathlib.Core.Path.{_≡_};
-ghost use Rattle.plain.specs.Reader.{fallPlace, risePlace, placeAfter, fallHeard, heardAt, readerAfter};
 ghost use mathlib.Core.Bool.{false};
 ghost use Rattle.wire.specs.Byte.{bit};
 ghost use Rattle.memory.specs.Memory.{put};
 ghost use Rattle.plain.specs.Device.{own, plainOf, firstByte, laterByte, hears, memoryIn, deviceIs, lent, kept, turned, layingOut, placeOf, owesBit, owesLater, owes};
+use reader::Heard;
+use reader::Place;
 use wire::Bits;
-use wire::Edge;
-use wire::Line;
-
-// The level of a ninth clock, once its rise has come.
-pub enum Ninth {
-    Waiting,
-    Got(bool),
-}
-
-// Where the reader is: outside every message; in the bits of a byte, the first after the Start or a later one; in its
-// ninth clock, with the byte.
-pub enum Place {
-    Idle,
-    Within(bool, Bits),
-    Ending(bool, u8, Ninth),
-}
-
-// What the reader tells of an edge. A byte, the first or a later one, comes at its ninth fall, with the ninth level.
-pub enum Heard {
-    Silence,
-    Started,
-    Stopped,
-    Byte(bool, u8, bool),
-}
-
-pub struct Reader {
-    pub line: Line,
-    pub place: Place,
-}
 
 // What the device is in the middle of: nothing; a write, its pointer due or not; a read, with the byte laid out.
 pub enum Turn {
@@ -49,88 +21,8 @@ pub struct Device {
     pub turn: Turn,
 }
 
-pub fn fall_place(place: Place) -> Place
-    ensures { λ r. ⌜ r ≡ fallPlace place ⌝ }
-{
-    match place {
-        Place::Idle => Place::Idle,
-        Place::Within(first, bits) => {
-            if wire::is_whole(bits) {
-                Place::Ending(first, bits.value, Ninth::Waiting)
-            } else {
-                Place::Within(first, bits)
-            }
-        }
-        Place::Ending(first, byte, ninth) => match ninth {
-            Ninth::Waiting => Place::Ending(first, byte, Ninth::Waiting),
-            Ninth::Got(_) => Place::Within(false, wire::no_bits()),
-        },
-    }
-}
-
-pub fn rise_place(place: Place, sda: bool) -> Place
-    ensures { λ r. ⌜ r ≡ risePlace place sda ⌝ }
-{
-    match place {
-        Place::Idle => Place::Idle,
-        Place::Within(first, bits) => Place::Within(first, wire::push(bits, sda)),
-        Place::Ending(first, byte, _) => Place::Ending(first, byte, Ninth::Got(sda)),
-    }
-}
-
-pub fn place_after(place: Place, e: Edge) -> Place
-    ensures { λ r. ⌜ r ≡ placeAfter place e ⌝ }
-{
-    match e {
-        Edge::Still => place,
-        Edge::Start => Place::Within(true, wire::no_bits()),
-        Edge::Stop => Place::Idle,
-        Edge::Rise(sda) => rise_place(place, sda),
-        Edge::Fall => fall_place(place),
-    }
-}
-
-pub fn fall_heard(place: Place) -> Heard
-    ensures { λ r. ⌜ r ≡ fallHeard place ⌝ }
-{
-    match place {
-        Place::Idle => Heard::Silence,
-        Place::Within(_, _) => Heard::Silence,
-        Place::Ending(first, byte, ninth) => match ninth {
-            Ninth::Waiting => Heard::Silence,
-            Ninth::Got(level) => Heard::Byte(first, byte, level),
-        },
-    }
-}
-
-pub fn heard_at(place: Place, e: Edge) -> Heard
-    ensures { λ r. ⌜ r ≡ heardAt place e ⌝ }
-{
-    match e {
-        Edge::Still => Heard::Silence,
-        Edge::Start => Heard::Started,
-        Edge::Stop => Heard::Stopped,
-        Edge::Rise(_) => Heard::Silence,
-        Edge::Fall => fall_heard(place),
-    }
-}
-
-// The reader after one wire level more.
-pub fn read_on(reader: Reader, scl: bool, sda: bool) -> Reader
-    ensures { λ r. ⌜ r ≡ readerAfter reader scl sda ⌝ }
-{
-    let line = reader.line;
-    let place = reader.place;
-    let e = wire::edge_of(line, scl, sda);
-    let next = place_after(place, e);
-    Reader {
-        line: wire::line_after(line.mark, e, scl, sda),
-        place: next,
-    }
-}
-
 // Bits 7 to 1 of the byte equal ADD's.
-pub fn is_own(add: u8, byte: u8) -> bool
+fn is_own(add: u8, byte: u8) -> bool
     ensures { λ r. ⌜ r ≡ own add byte ⌝ }
 {
     (byte / 2 % 2 == add / 2 % 2)
@@ -143,7 +35,7 @@ pub fn is_own(add: u8, byte: u8) -> bool
 }
 
 // The byte at the pointer is laid out, the pointer goes one on.
-pub fn lay_out(d: Device, memory: &[u8]) -> Device
+fn lay_out(d: Device, memory: &[u8]) -> Device
     ensures { λ r. ⌜ r ≡ layingOut d (now (memory .entry)) ⌝ }
 {
     let byte = memory::peek(memory, d.pointer);
@@ -154,14 +46,14 @@ pub fn lay_out(d: Device, memory: &[u8]) -> Device
     }
 }
 
-pub fn with_turn(d: Device, turn: Turn) -> Device
+fn with_turn(d: Device, turn: Turn) -> Device
     ensures { λ r. ⌜ r ≡ turned d turn ⌝ }
 {
     Device { turn: turn, ..d }
 }
 
 // The first byte after a Start.
-pub fn hear_first(d: Device, add: u8, byte: u8, memory: &[u8]) -> Device
+fn hear_first(d: Device, add: u8, byte: u8, memory: &[u8]) -> Device
     ensures { λ r. ⌜ lent r (now (memory .entry))
         ≡ kept (d .n) (firstByte (d .n) (own add byte) (bit 0 byte) (memoryIn d (now (memory .entry)))) ⌝ }
 {
@@ -177,7 +69,7 @@ pub fn hear_first(d: Device, add: u8, byte: u8, memory: &[u8]) -> Device
 }
 
 // A byte of a write turn: the pointer where one is due, else stored.
-pub fn take_byte(d: Device, due: bool, byte: u8, memory: &mut [u8]) -> Device
+fn take_byte(d: Device, due: bool, byte: u8, memory: &mut [u8]) -> Device
     ensures { λ r. ⌜ lent r (now (memory .exit))
         ≡ kept (d .n) (plainOf (put (d .n) due byte (memoryIn d (now (memory .entry)))) (Turn.Writing false)) ⌝ }
 {
@@ -200,7 +92,7 @@ pub fn take_byte(d: Device, due: bool, byte: u8, memory: &mut [u8]) -> Device
 }
 
 // A later byte, with the level of its ninth clock.
-pub fn hear_later(d: Device, byte: u8, level: bool, memory: &mut [u8]) -> Device
+fn hear_later(d: Device, byte: u8, level: bool, memory: &mut [u8]) -> Device
     ensures { λ r. ⌜ lent r (now (memory .exit))
         ≡ kept (d .n) (laterByte (d .n) byte (d .turn) level (memoryIn d (now (memory .entry)))) ⌝ }
 {
@@ -238,7 +130,7 @@ pub fn hear(d: Device, add: u8, heard: Heard, memory: &mut [u8]) -> Device
 }
 
 // The place of the laid-out bit that is on the wire.
-pub fn bit_place(scl: bool, bits: Bits) -> u8
+fn bit_place(scl: bool, bits: Bits) -> u8
     ensures { λ r. ⌜ r ≡ placeOf scl bits ⌝ }
 {
     let count = bits.count;
@@ -250,7 +142,7 @@ pub fn bit_place(scl: bool, bits: Bits) -> u8
 }
 
 // The 0 bits of a laid-out byte are owed once the hold has ended.
-pub fn owes_bit(held: bool, scl: bool, bits: Bits, turn: Turn) -> bool
+fn owes_bit(held: bool, scl: bool, bits: Bits, turn: Turn) -> bool
     ensures { λ r. ⌜ r ≡ owesBit held scl bits turn ⌝ }
 {
     match turn {
@@ -264,7 +156,7 @@ pub fn owes_bit(held: bool, scl: bool, bits: Bits, turn: Turn) -> bool
 }
 
 // The ninth slot of a later byte is owed in a write turn.
-pub fn owes_later(turn: Turn) -> bool
+fn owes_later(turn: Turn) -> bool
     ensures { λ r. ⌜ r ≡ owesLater turn ⌝ }
 {
     match turn {

@@ -9,7 +9,7 @@ use native.Mathlib.Nat.{eq-or-lt-of-le, le-of-suc-le-suc}
 use lib.Dec.{T, eqb, eqb→eq}
 use Rattle.truth.specs.Tests.{and-left, and-right}
 use Rattle.wire.specs.Byte.{bit}
-use Rattle.registers.specs.Values.{byteOf}
+use Rattle.register_bytes.specs.Bytes.{byteOf}
 
 -- A test that is computed at each number below n, and what it says of one of them.
 abbrev allBelow : (ℕ → Bool) → ℕ → Bool

@@ -11,11 +11,12 @@ use Rattle.mssp.specs.declared.Module.{Module}
 use Rattle.mssp.specs.Drivers.{heldForSending}
 use Rattle.registers.specs.declared.Register.{Register}
 use Rattle.registers.specs.declared.Register.the-variants.{Buf, Stat, Con1, Con2, Con3, Add, Msk, Flag, Nowhere}
-use Rattle.registers.specs.Values.{byteOf, valueOf, registerOf}
-use Rattle.registers.specs.Writes.{con1Stored, con1Then, written, verdictOf, writeOf}
+use Rattle.registers.specs.Values.{valueOf, registerOf}
+use Rattle.register_bytes.specs.Bytes.{byteOf}
+use Rattle.writes.specs.Writes.{con1Stored, con1Then, written, verdictOf, writeOf}
 use Rattle.refusals.specs.Numbers.{accepted}
 use Rattle.refusals.specs.declared.Verdict.{Verdict}
-use Rattle.registers.specs.Bits.{bits-back}
+use Rattle.register_bytes.specs.Bits.{bits-back}
 use Rattle.readback.specs.Bits.{byte-back}
 
 -- What a register of a module holds.

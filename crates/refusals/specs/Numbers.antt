@@ -1,4 +1,4 @@
--- The numbers of the refusals (01, "Calls, refusals and their order", the table), and what a verdict answers.
+-- The numbers of the refusals (01, "Calls, refusals and their order", the table), and which verdict accepts.
 -- Assumes nothing.
 use Prim.Native.Nat.{ℕ}
 use mathlib.Core.Bool.{Bool, true, false}
@@ -18,16 +18,6 @@ numberOf NoMode = 3
 numberOf NoWindow = 5
 numberOf NoItem = 4
 numberOf PastRecord = 7
-
--- 0 is no refusal.
-abbrev pub refusalOf : Verdict → ℕ
-refusalOf (Done v) = 0
-refusalOf (Refused why) = numberOf why
-
--- A refused call has no value.
-abbrev pub valueOf : Verdict → ℕ
-valueOf (Done v) = v
-valueOf (Refused why) = 0
 
 abbrev pub accepted : Verdict → Bool
 accepted (Done v) = true

@@ -1,7 +1,7 @@
 // Why a call is refused, and what an accepted one answers: enums inside, the paper's numbers at the door.
 ghost use mathlib.Core.Path.{_≡_};
 ghost use mathlib.Core.Bool.{cond};
-ghost use Rattle.refusals.specs.Numbers.{numberOf, refusalOf, valueOf, accepted};
+ghost use Rattle.refusals.specs.Numbers.{numberOf, accepted};
 
 pub enum Refusal {
     NoState,
@@ -30,26 +30,6 @@ pub fn number(why: Refusal) -> u8
         Refusal::NoWindow => 5,
         Refusal::NoItem => 4,
         Refusal::PastRecord => 7,
-    }
-}
-
-// The refusal's number, 0 where there is none.
-pub fn refusal_number(verdict: Verdict) -> u8
-    ensures { λ r. ⌜ r ≡ refusalOf verdict ⌝ }
-{
-    match verdict {
-        Verdict::Done(_) => 0,
-        Verdict::Refused(why) => number(why),
-    }
-}
-
-// The value, 0 after a refusal.
-pub fn value(verdict: Verdict) -> u8
-    ensures { λ r. ⌜ r ≡ valueOf verdict ⌝ }
-{
-    match verdict {
-        Verdict::Done(v) => v,
-        Verdict::Refused(_) => 0,
     }
 }
 

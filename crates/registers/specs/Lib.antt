@@ -1,3 +1,1 @@
 pub mod Values
-pub mod Writes
-pub mod Bits

@@ -1,7 +1,7 @@
--- The registers by number, which bit stands where, and what a read gives and changes (01, "Register numbers").
+-- The registers by number, and what a read gives and changes (01, "Register numbers").
 -- Assumes nothing.
-use Prim.Native.Nat.{ℕ, _+_, _*_}
-use mathlib.Core.Bool.{Bool, true, false, cond}
+use Prim.Native.Nat.{ℕ}
+use mathlib.Core.Bool.{cond}
 use mir.Val.{boolByte}
 use lib.Dec.{eqb}
 use Rattle.refusals.specs.declared.Refusal.the-variants.{NoRegister}
@@ -11,6 +11,7 @@ use Rattle.mssp.specs.declared.Config.{Config}
 use Rattle.mssp.specs.declared.Live.{Live}
 use Rattle.mssp.specs.declared.Module.{Module}
 use Rattle.mssp.specs.Effects.{emptied}
+use Rattle.register_bytes.specs.Bytes.{statOf, con1Of, con2Of, con3Of}
 use Rattle.registers.specs.declared.Register.{Register}
 use Rattle.registers.specs.declared.Register.the-variants.{Buf, Stat, Con1, Con2, Con3, Add, Msk, Flag, Nowhere}
 use Rattle.registers.specs.declared.Access.{Access}
@@ -26,28 +27,6 @@ registerOf number =
     (cond (eqb number 5) Add
     (cond (eqb number 6) Msk
     (cond (eqb number 7) Flag Nowhere)))))))
-
--- Eight bits as a byte, bit 7 first.
-abbrev pub byteOf : Bool → Bool → Bool → Bool → Bool → Bool → Bool → Bool → ℕ
-byteOf b7 b6 b5 b4 b3 b2 b1 b0 =
-    boolByte b7 * 128 + boolByte b6 * 64 + boolByte b5 * 32 + boolByte b4 * 16 + boolByte b3 * 8 + boolByte b2 * 4
-    + boolByte b1 * 2 + boolByte b0
-
--- SMP, CKE, D/A, P, S, R/W, UA, BF. UA stays 0 in this mode.
-abbrev pub statOf : Config → Live → ℕ
-statOf c l = byteOf (c .smp) (c .cke) (l .da) (l .p) (l .s) (l .rw) false (l .bf)
-
--- WCOL, SSPOV, SSPEN, CKP, SSPM.
-abbrev pub con1Of : Config → Live → ℕ
-con1Of c l = byteOf (c .wcol) (l .sspov) (c .sspen) (l .ckp) (c .sspm3) (c .sspm2) (c .sspm1) (c .sspm0)
-
--- GCEN, ACKSTAT, ACKDT, four bits of the master, SEN.
-abbrev pub con2Of : Config → Live → ℕ
-con2Of c l = byteOf (c .gcen) (l .ackstat) (c .ackdt) false false false false (c .sen)
-
--- ACKTIM, PCIE, SCIE, BOEN, SDAHT, SBCDE, AHEN, DHEN. BOEN is not modelled.
-abbrev pub con3Of : Config → Live → ℕ
-con3Of c l = byteOf (l .acktim) (c .pcie) (c .scie) false (c .sdaht) (c .sbcde) (c .ahen) (c .dhen)
 
 -- What a register holds. Of the flag register only SSPIF is not 0.
 abbrev pub valueOf : Config → Live → Register → ℕ

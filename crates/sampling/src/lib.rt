@@ -15,7 +15,7 @@ pub struct Moved {
 }
 
 // Start. SSPIF as SCIE or the mode asks; a byte that was being sent is dropped.
-pub fn start(c: Config, l: Live, sending: bool) -> Live
+fn start(c: Config, l: Live, sending: bool) -> Live
     ensures { λ r. ⌜ r ≡ started c l sending ⌝ }
 {
     let mut n = l;
@@ -30,7 +30,7 @@ pub fn start(c: Config, l: Live, sending: bool) -> Live
 }
 
 // Stop. SSPIF as PCIE or the mode asks; a byte that was being sent is dropped.
-pub fn stop(c: Config, l: Live, sending: bool) -> Live
+fn stop(c: Config, l: Live, sending: bool) -> Live
     ensures { λ r. ⌜ r ≡ stopped c l sending ⌝ }
 {
     let mut n = l;
@@ -44,7 +44,7 @@ pub fn stop(c: Config, l: Live, sending: bool) -> Live
 }
 
 // Intake of a byte, held before its acknowledge or not.
-pub fn take_in(c: Config, l: Live, byte: u8, hold: bool) -> Moved
+fn take_in(c: Config, l: Live, byte: u8, hold: bool) -> Moved
     ensures { λ r. ⌜ r ≡ intake c l byte hold ⌝ }
 {
     let refused = l.bf | l.sspov;
@@ -63,7 +63,7 @@ pub fn take_in(c: Config, l: Live, byte: u8, hold: bool) -> Moved
 }
 
 // A whole address at its eighth fall.
-pub fn address_byte(c: Config, l: Live, byte: u8) -> Moved
+fn address_byte(c: Config, l: Live, byte: u8) -> Moved
     ensures { λ r. ⌜ r ≡ addressByte c l byte ⌝ }
 {
     if address::matches(c.add, c.msk, c.gcen, byte) {
@@ -80,7 +80,7 @@ pub fn address_byte(c: Config, l: Live, byte: u8) -> Moved
 }
 
 // A whole data byte at its eighth fall.
-pub fn data_byte(c: Config, l: Live, byte: u8) -> Moved
+fn data_byte(c: Config, l: Live, byte: u8) -> Moved
     ensures { λ r. ⌜ r ≡ dataByte c l byte ⌝ }
 {
     let mut n = l;
@@ -89,7 +89,7 @@ pub fn data_byte(c: Config, l: Live, byte: u8) -> Moved
 }
 
 // A fall in an address: the eighth ends it, any other ends no byte.
-pub fn address_fall(c: Config, l: Live, bits: Bits) -> Moved
+fn address_fall(c: Config, l: Live, bits: Bits) -> Moved
     ensures { λ r. ⌜ r ≡ addressFall c l bits ⌝ }
 {
     if wire::is_whole(bits) {
@@ -103,7 +103,7 @@ pub fn address_fall(c: Config, l: Live, bits: Bits) -> Moved
 }
 
 // A fall in data, likewise.
-pub fn data_fall(c: Config, l: Live, bits: Bits, held: bool) -> Moved
+fn data_fall(c: Config, l: Live, bits: Bits, held: bool) -> Moved
     ensures { λ r. ⌜ r ≡ dataFall c l bits held ⌝ }
 {
     if wire::is_whole(bits) {
@@ -117,7 +117,7 @@ pub fn data_fall(c: Config, l: Live, bits: Bits, held: bool) -> Moved
 }
 
 // The ninth fall ends the acknowledge slot.
-pub fn slot_fall(c: Config, l: Live, pulling: bool) -> Moved
+fn slot_fall(c: Config, l: Live, pulling: bool) -> Moved
     ensures { λ r. ⌜ r ≡ slotEnded c l pulling ⌝ }
 {
     let to_send = !l.da & l.rw;
@@ -134,7 +134,7 @@ pub fn slot_fall(c: Config, l: Live, pulling: bool) -> Moved
 }
 
 // A fall in sending: the next bit, or after the eighth the master's acknowledge.
-pub fn sending_fall(l: Live, byte: u8, place: u8) -> Moved
+fn sending_fall(l: Live, byte: u8, place: u8) -> Moved
     ensures { λ r. ⌜ r ≡ bitSent l byte place ⌝ }
 {
     if place < 7 {
@@ -154,7 +154,7 @@ pub fn sending_fall(l: Live, byte: u8, place: u8) -> Moved
 }
 
 // The fall after the master's acknowledge: on with the next byte, or done.
-pub fn answer_fall(l: Live) -> Moved
+fn answer_fall(l: Live) -> Moved
     ensures { λ r. ⌜ r ≡ answered l ⌝ }
 {
     let mut n = l;
@@ -168,7 +168,7 @@ pub fn answer_fall(l: Live) -> Moved
     }
 }
 
-pub fn on_fall(c: Config, l: Live, phase: Phase) -> Moved
+fn on_fall(c: Config, l: Live, phase: Phase) -> Moved
     ensures { λ r. ⌜ r ≡ fallen c l phase ⌝ }
 {
     match phase {
@@ -193,7 +193,7 @@ pub fn on_fall(c: Config, l: Live, phase: Phase) -> Moved
 }
 
 // A rise in data takes a bit, unless the clock is held.
-pub fn data_rise(bits: Bits, held: bool, sda: bool) -> Phase
+fn data_rise(bits: Bits, held: bool, sda: bool) -> Phase
     ensures { λ r. ⌜ r ≡ dataRisen bits held sda ⌝ }
 {
     if held {
@@ -204,7 +204,7 @@ pub fn data_rise(bits: Bits, held: bool, sda: bool) -> Phase
 }
 
 // A rise: a bit of an address or of data, the end of ACKTIM in the slot, the master's acknowledge.
-pub fn on_rise(l: Live, phase: Phase, sda: bool) -> Moved
+fn on_rise(l: Live, phase: Phase, sda: bool) -> Moved
     ensures { λ r. ⌜ r ≡ risen l phase sda ⌝ }
 {
     let mut n = l;
@@ -226,7 +226,7 @@ pub fn on_rise(l: Live, phase: Phase, sda: bool) -> Moved
 }
 
 // What an edge does to the module.
-pub fn on_edge(c: Config, l: Live, phase: Phase, e: Edge) -> Moved
+fn on_edge(c: Config, l: Live, phase: Phase, e: Edge) -> Moved
     ensures { λ r. ⌜ r ≡ edgeStep c l phase e ⌝ }
 {
     match e {
@@ -255,7 +255,7 @@ pub fn on_edge(c: Config, l: Live, phase: Phase, e: Edge) -> Moved
 }
 
 // The module sees a wire level. Disabled, it only remembers it.
-pub fn see(m: Module, scl: bool, sda: bool) -> Module
+fn see(m: Module, scl: bool, sda: bool) -> Module
     ensures { λ r. ⌜ r ≡ seen m scl sda ⌝ }
 {
     let c = m.config;

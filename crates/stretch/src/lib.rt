@@ -44,7 +44,7 @@ pub struct Stretch {
 }
 
 // The wire after a level that is no Start.
-pub fn see_on(w: Seen, scl: bool, sda: bool) -> Seen
+fn see_on(w: Seen, scl: bool, sda: bool) -> Seen
     ensures { λ r. ⌜ r ≡ seenOn w scl sda ⌝ }
 {
     Seen {
@@ -55,7 +55,7 @@ pub fn see_on(w: Seen, scl: bool, sda: bool) -> Seen
 }
 
 // A level ends a stretch with a Start or a Stop, and with a rise or a fall that the phase has a rule for.
-pub fn is_end(w: Seen, scl: bool, sda: bool, rise: bool, fall: bool) -> bool
+fn is_end(w: Seen, scl: bool, sda: bool, rise: bool, fall: bool) -> bool
     ensures { λ r. ⌜ r ≡ ends w scl sda rise fall ⌝ }
 {
     if w.scl {
@@ -66,7 +66,7 @@ pub fn is_end(w: Seen, scl: bool, sda: bool, rise: bool, fall: bool) -> bool
 }
 
 // A rise takes a bit.
-pub fn take_at(bits: Bits, w: Seen, scl: bool, sda: bool) -> Bits
+fn take_at(bits: Bits, w: Seen, scl: bool, sda: bool) -> Bits
     ensures { λ r. ⌜ r ≡ takenAt bits w scl sda ⌝ }
 {
     if w.scl {
@@ -76,7 +76,7 @@ pub fn take_at(bits: Bits, w: Seen, scl: bool, sda: bool) -> Bits
 }
 
 // A fall moves on to the next bit. The last place meets no fall here, so the remainder only keeps the number in range.
-pub fn place_at(place: u8, w: Seen, scl: bool) -> u8
+fn place_at(place: u8, w: Seen, scl: bool) -> u8
     ensures { λ r. ⌜ r ≡ placeAt place w scl ⌝ }
 {
     if w.scl {
@@ -87,7 +87,7 @@ pub fn place_at(place: u8, w: Seen, scl: bool) -> u8
 }
 
 // An address or data, up to the fall that ends a byte. Once a level is seen, the same level again changes nothing.
-pub fn taking(bits: Bits, from: Seen, items: &[u8]) -> Taken
+fn taking(bits: Bits, from: Seen, items: &[u8]) -> Taken
     ensures { λ r. ⌜ r ≡ takingOf bits from (now (items .entry)) ⌝ }
 {
     let mut b = bits;
@@ -123,7 +123,7 @@ pub fn taking(bits: Bits, from: Seen, items: &[u8]) -> Taken
 }
 
 // A byte that is sent, up to the fall that ends it. After a fall SDA may change under the same level.
-pub fn sending(byte: u8, first: u8, from: Seen, items: &[u8]) -> Sent
+fn sending(byte: u8, first: u8, from: Seen, items: &[u8]) -> Sent
     ensures { λ r. ⌜ r ≡ sendingOf byte first from (now (items .entry)) ⌝ }
 {
     let mut place = first;
@@ -163,7 +163,7 @@ pub fn sending(byte: u8, first: u8, from: Seen, items: &[u8]) -> Sent
 }
 
 // A phase without bits, up to an edge that it has a rule for.
-pub fn resting(holds: bool, pulls: bool, rise: bool, fall: bool, from: Seen, items: &[u8]) -> Rested
+fn resting(holds: bool, pulls: bool, rise: bool, fall: bool, from: Seen, items: &[u8]) -> Rested
     ensures { λ r. ⌜ r ≡ restingOf holds pulls rise fall from (now (items .entry)) ⌝ }
 {
     let mut w = from;
@@ -278,7 +278,7 @@ fn has_fall(phase: Phase) -> bool
 }
 
 // A stretch in any phase.
-pub fn in_phase(phase: Phase, acktim: bool, w: Seen, items: &[u8]) -> Stretch
+fn in_phase(phase: Phase, acktim: bool, w: Seen, items: &[u8]) -> Stretch
     ensures { λ r. ⌜ r ≡ phaseStretch phase acktim w (now (items .entry)) ⌝ }
 {
     let bits = bits_of(phase);

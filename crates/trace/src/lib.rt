@@ -47,7 +47,7 @@ fn move_on(s: State, ahead: Stretch) -> State
 }
 
 // All the items, in their order. After each item that a rule has to see comes the stretch that it begins.
-pub fn run(s: State, window: &mut [u8], items: &[u8]) -> State
+fn run(s: State, window: &mut [u8], items: &[u8]) -> State
     ensures { λ r. ⌜ served r (now (window .exit)) ≡ runOf s (now (window .entry)) (now (items .entry)) ⌝ }
 {
     let mut t = s;

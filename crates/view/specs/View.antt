@@ -15,7 +15,7 @@ use Rattle.mssp.specs.Drivers.{sclPulled, sdaPulled}
 use Rattle.registers.specs.declared.Register.the-variants.{Buf, Stat, Con1, Con2, Con3, Add, Msk, Flag}
 use Rattle.registers.specs.Values.{valueOf}
 use Rattle.firmware.specs.declared.State.{State}
-use Rattle.module_image.specs.ModulePart.{phaseNumber, phaseCount, phaseByte, wireByte}
+use Rattle.phase_image.specs.PhasePart.{phaseNumber, phaseCount, phaseByte, wireByte}
 use Rattle.view.specs.declared.View.{View}
 
 -- Only a hold before acknowledge is refused or not.

@@ -31,7 +31,7 @@ pub struct Bits {
 }
 
 // SCL stays high: SDA before and after.
-pub fn sda_edge(mark: bool, before: bool, after: bool) -> Edge
+fn sda_edge(mark: bool, before: bool, after: bool) -> Edge
     ensures { λ r. ⌜ r ≡ condition mark before after ⌝ }
 {
     if mark {

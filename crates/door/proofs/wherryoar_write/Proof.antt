@@ -2,7 +2,7 @@
 -- Assumes nothing.
 use borrow.Author.Needs.{needs}
 use denote.Ref.{now}
-use Rattle.registers.specs.Writes.{writeOf}
+use Rattle.writes.specs.Writes.{writeOf}
 use Rattle.door.specs.Laws.{decoded-length, no-image, of-state, access-settled}
 use Rattle.door.proofs.wherryoar_write.Statement.{statement}
 use Rattle.door.proofs.wherryoar_write.Tie as tie

@@ -1,0 +1,24 @@
+-- The numbers of a search's answer (01, "The wire record and the message under the cursor").
+-- Assumes nothing.
+use Prim.Native.Nat.{ℕ}
+use Rattle.refusals.specs.Numbers.{numberOf}
+use Rattle.found.specs.declared.Found.{Found}
+use Rattle.found.specs.declared.Found.the-variants.{Part, Refused}
+
+-- The refusal (0 for none), the item beside it, and the part's start and length. A
+-- refused call has the empty part at 0.
+abbrev pub refusalOf : Found → ℕ
+refusalOf (Part start count) = 0
+refusalOf (Refused why item) = numberOf why
+
+abbrev pub itemOf : Found → ℕ
+itemOf (Part start count) = 0
+itemOf (Refused why item) = item
+
+abbrev pub startOf : Found → ℕ
+startOf (Part start count) = start
+startOf (Refused why item) = 0
+
+abbrev pub lengthOf : Found → ℕ
+lengthOf (Part start count) = count
+lengthOf (Refused why item) = 0

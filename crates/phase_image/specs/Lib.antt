@@ -1,0 +1,2 @@
+pub mod PhasePart
+pub mod Laws

@@ -1,0 +1,23 @@
+-- `reader::place_after` meets its contract.
+-- Assumes nothing.
+use borrow.Author.Needs.{needs}
+use Rattle.reader.proofs.place_after.Statement.{statement}
+use Rattle.reader.proofs.place_after.Tie as tie
+
+pub place-after-spec : {M : Type 1} → statement M
+place-after-spec =
+    tie.close
+    (tie.spec
+    (λ c. search needs)
+    (λ c. search needs)
+    (λ c κs. search needs)
+    (λ c. search needs)
+    (λ c. search needs)
+    (λ c κs. search needs)
+    (λ c. search needs)
+    (λ c κs. search needs)
+    (λ c. search needs)
+    (λ c. simp (c .before .enum-told2 .given .1, c .no-bits .ensures))
+    (λ c. search needs)
+    (λ c. simp (c .before .before .e .given .1) (c .rise-place .ensures))
+    (λ c. search needs))

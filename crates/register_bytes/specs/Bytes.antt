@@ -1,0 +1,29 @@
+-- Which bit of STAT, CON1, CON2 and CON3 stands where (01, "Register numbers").
+-- Assumes nothing.
+use Prim.Native.Nat.{ℕ, _+_, _*_}
+use mathlib.Core.Bool.{Bool, false}
+use mir.Val.{boolByte}
+use Rattle.mssp.specs.declared.Config.{Config}
+use Rattle.mssp.specs.declared.Live.{Live}
+
+-- Eight bits as a byte, bit 7 first.
+abbrev pub byteOf : Bool → Bool → Bool → Bool → Bool → Bool → Bool → Bool → ℕ
+byteOf b7 b6 b5 b4 b3 b2 b1 b0 =
+    boolByte b7 * 128 + boolByte b6 * 64 + boolByte b5 * 32 + boolByte b4 * 16 + boolByte b3 * 8 + boolByte b2 * 4
+    + boolByte b1 * 2 + boolByte b0
+
+-- SMP, CKE, D/A, P, S, R/W, UA, BF. UA stays 0 in this mode.
+abbrev pub statOf : Config → Live → ℕ
+statOf c l = byteOf (c .smp) (c .cke) (l .da) (l .p) (l .s) (l .rw) false (l .bf)
+
+-- WCOL, SSPOV, SSPEN, CKP, SSPM.
+abbrev pub con1Of : Config → Live → ℕ
+con1Of c l = byteOf (c .wcol) (l .sspov) (c .sspen) (l .ckp) (c .sspm3) (c .sspm2) (c .sspm1) (c .sspm0)
+
+-- GCEN, ACKSTAT, ACKDT, four bits of the master, SEN.
+abbrev pub con2Of : Config → Live → ℕ
+con2Of c l = byteOf (c .gcen) (l .ackstat) (c .ackdt) false false false false (c .sen)
+
+-- ACKTIM, PCIE, SCIE, BOEN, SDAHT, SBCDE, AHEN, DHEN. BOEN is not modelled.
+abbrev pub con3Of : Config → Live → ℕ
+con3Of c l = byteOf (l .acktim) (c .pcie) (c .scie) false (c .sdaht) (c .sbcde) (c .ahen) (c .dhen)

@@ -1,0 +1,70 @@
+// STAT, CON1, CON2 and CON3 as they read: which bit stands where.
+ghost use mathlib.Core.Path.{_≡_};
+ghost use Rattle.register_bytes.specs.Bytes.{byteOf, statOf, con1Of, con2Of, con3Of};
+use mssp::Config;
+use mssp::Live;
+
+// Eight bits as a byte, bit 7 first.
+fn pack(b7: bool, b6: bool, b5: bool, b4: bool, b3: bool, b2: bool, b1: bool, b0: bool) -> u8
+    ensures { λ r. ⌜ r ≡ byteOf b7 b6 b5 b4 b3 b2 b1 b0 ⌝ }
+{
+    (b7 as u8) * 128
+        + (b6 as u8) * 64
+        + (b5 as u8) * 32
+        + (b4 as u8) * 16
+        + (b3 as u8) * 8
+        + (b2 as u8) * 4
+        + (b1 as u8) * 2
+        + (b0 as u8)
+}
+
+pub fn stat(c: Config, l: Live) -> u8
+    ensures { λ r. ⌜ r ≡ statOf c l ⌝ }
+{
+    pack(c.smp, c.cke, l.da, l.p, l.s, l.rw, false, l.bf)
+}
+
+pub fn con1(c: Config, l: Live) -> u8
+    ensures { λ r. ⌜ r ≡ con1Of c l ⌝ }
+{
+    pack(
+        c.wcol,
+        l.sspov,
+        c.sspen,
+        l.ckp,
+        c.sspm3,
+        c.sspm2,
+        c.sspm1,
+        c.sspm0,
+    )
+}
+
+pub fn con2(c: Config, l: Live) -> u8
+    ensures { λ r. ⌜ r ≡ con2Of c l ⌝ }
+{
+    pack(
+        c.gcen,
+        l.ackstat,
+        c.ackdt,
+        false,
+        false,
+        false,
+        false,
+        c.sen,
+    )
+}
+
+pub fn con3(c: Config, l: Live) -> u8
+    ensures { λ r. ⌜ r ≡ con3Of c l ⌝ }
+{
+    pack(
+        l.acktim,
+        c.pcie,
+        c.scie,
+        false,
+        c.sdaht,
+        c.sbcde,
+        c.ahen,
+        c.dhen,
+    )
+}

@@ -1,0 +1,39 @@
+-- `writes::take` meets its contract.
+-- Assumes nothing.
+use borrow.Author.Needs.{needs}
+use Rattle.writes.proofs.take.Statement.{statement}
+use Rattle.writes.proofs.take.Tie as tie
+
+pub take-spec : {M : Type 1} → statement M
+take-spec =
+    tie.close
+    (tie.spec
+    (λ c. search needs)
+    (λ c κs. search needs)
+    (λ c. search needs)
+    (λ c κs. search needs)
+    (λ c κs. search needs)
+    (λ c. search needs)
+    (λ c κs. search needs)
+    (λ c. search needs)
+    (λ c κs. search needs)
+    (λ c κs. search needs)
+    (λ c. search needs)
+    (λ c κs. search needs)
+    (λ c κs. search needs)
+    (λ c. search needs)
+    (λ c κs. search needs)
+    (λ c. search needs)
+    (λ c κs. search needs)
+    (λ c. search needs)
+    (λ c κs. search needs)
+    (λ c. search needs)
+    (λ c. simp (c .before .enum-told .given .1) (c .load .ensures))
+    (λ c. simp (c .before .before .enum-told2 .given .1, c .with-config .ensures, c .before .write-stat .ensures))
+    (λ c. simp (c .before .enum-told3 .given .1) (c .write-con1 .ensures))
+    (λ c. simp (c .before .before .enum-told4 .given .1, c .with-config2 .ensures, c .before .write-con2 .ensures))
+    (λ c. simp (c .before .before .enum-told5 .given .1, c .with-config3 .ensures, c .before .write-con3 .ensures))
+    (λ c. simp (c .before .enum-told6 .given .1, c .with-config4 .ensures))
+    (λ c. simp (c .before .enum-told7 .given .1, c .with-config5 .ensures))
+    (λ c. simp (c .before .enum-told8 .given .1) (c .write-flag .ensures))
+    (λ c. simp (c .enum-told9 .given .1)))

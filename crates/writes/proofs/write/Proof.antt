@@ -1,0 +1,16 @@
+-- `writes::write` meets its contract.
+-- Assumes nothing.
+use borrow.Author.Needs.{needs}
+use Rattle.writes.proofs.write.Statement.{statement}
+use Rattle.writes.proofs.write.Tie as tie
+
+pub write-spec : {M : Type 1} → statement M
+write-spec =
+    tie.close
+    (tie.spec
+    (λ c κs. search needs)
+    (λ c κs. search needs)
+    (λ c κs. search needs)
+    (λ c κs. search needs)
+    (λ c κs. search needs)
+    (λ c. simp (c .pick-module .ensures, c .before .is-accepted .ensures, c .before .before .take .ensures, c .before .before .before .write-verdict .ensures, c .before .before .before .before .register-of .ensures)))

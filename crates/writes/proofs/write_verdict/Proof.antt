@@ -1,0 +1,31 @@
+-- `writes::write_verdict` meets its contract.
+-- Assumes nothing.
+use borrow.Author.Needs.{needs}
+use Rattle.writes.proofs.write_verdict.Statement.{statement}
+use Rattle.writes.proofs.write_verdict.Tie as tie
+
+pub write-verdict-spec : {M : Type 1} → statement M
+write-verdict-spec =
+    tie.close
+    (tie.spec
+    (λ c. search needs)
+    (λ c. search needs)
+    (λ c. search needs)
+    (λ c κs. search needs)
+    (λ c. search needs)
+    (λ c κs. search needs)
+    (λ c. search needs)
+    (λ c κs. search needs)
+    (λ c. search needs)
+    (λ c. search needs)
+    (λ c. search needs)
+    (λ c. search needs)
+    (λ c. search needs)
+    (λ c. search needs)
+    (λ c. simp (c .before .enum-told3 .given .1) (c .pick-verdict .ensures))
+    (λ c. simp (c .before .enum-told4 .given .1) (c .pick-verdict2 .ensures))
+    (λ c. simp (c .before .enum-told5 .given .1) (c .pick-verdict3 .ensures))
+    (λ c. search needs)
+    (λ c. search needs)
+    (λ c. search needs)
+    (λ c. simp (c .enum-told9 .given .1)))

@@ -1,0 +1,159 @@
+// What a write to a register takes, what it does beside that, and which writes are refused.
+ghost use mathlib.Core.Path.{_≡_};
+ghost use Rattle.writes.specs.Writes.{statWritten, con1Stored, con1Written, con2Written, con3Written, flagWritten, withConfig, verdictOf, written, writeOf};
+use mssp::Config;
+use mssp::Module;
+use refusals::Refusal;
+use refusals::Verdict;
+use registers::Access;
+use registers::Register;
+
+// STAT takes SMP and CKE alone.
+fn write_stat(c: Config, v: u8) -> Config
+    ensures { λ r. ⌜ r ≡ statWritten v c ⌝ }
+{
+    let mut n = c;
+    n.smp = v / 128 % 2 == 1;
+    n.cke = v / 64 % 2 == 1;
+    n
+}
+
+// CON2: ACKSTAT ignores writes.
+fn write_con2(c: Config, v: u8) -> Config
+    ensures { λ r. ⌜ r ≡ con2Written v c ⌝ }
+{
+    let mut n = c;
+    n.gcen = v / 128 % 2 == 1;
+    n.ackdt = v / 32 % 2 == 1;
+    n.sen = v / 1 % 2 == 1;
+    n
+}
+
+// CON3: ACKTIM ignores writes.
+fn write_con3(c: Config, v: u8) -> Config
+    ensures { λ r. ⌜ r ≡ con3Written v c ⌝ }
+{
+    let mut n = c;
+    n.pcie = v / 64 % 2 == 1;
+    n.scie = v / 32 % 2 == 1;
+    n.sdaht = v / 8 % 2 == 1;
+    n.sbcde = v / 4 % 2 == 1;
+    n.ahen = v / 2 % 2 == 1;
+    n.dhen = v / 1 % 2 == 1;
+    n
+}
+
+// CON1's bits alone: WCOL and SSPOV are only cleared.
+fn store_con1(m: Module, v: u8) -> Module
+    ensures { λ r. ⌜ r ≡ con1Stored v m ⌝ }
+{
+    let mut config = m.config;
+    config.wcol = config.wcol & (v / 128 % 2 == 1);
+    config.sspen = v / 32 % 2 == 1;
+    config.sspm3 = v / 8 % 2 == 1;
+    config.sspm2 = v / 4 % 2 == 1;
+    config.sspm1 = v / 2 % 2 == 1;
+    config.sspm0 = v / 1 % 2 == 1;
+    let mut live = m.live;
+    live.sspov = live.sspov & (v / 64 % 2 == 1);
+    live.ckp = v / 16 % 2 == 1;
+    Module {
+        config: config,
+        live: live,
+        ..m
+    }
+}
+
+// CON1: its bits, then what SSPEN from 1 to 0, or else CKP 1, does.
+fn write_con1(m: Module, v: u8) -> Module
+    ensures { λ r. ⌜ r ≡ con1Written v m ⌝ }
+{
+    let off = m.config.sspen & !(v / 32 % 2 == 1);
+    let stored = store_con1(m, v);
+    if off {
+        mssp::disable(stored)
+    } else if v / 16 % 2 == 1 {
+        mssp::release(stored)
+    } else {
+        stored
+    }
+}
+
+// The flag register: SSPIF is only cleared.
+fn write_flag(m: Module, v: u8) -> Module
+    ensures { λ r. ⌜ r ≡ flagWritten v m ⌝ }
+{
+    let mut live = m.live;
+    live.sspif = live.sspif & (v / 1 % 2 == 1);
+    Module { live: live, ..m }
+}
+
+fn with_config(m: Module, config: Config) -> Module
+    ensures { λ r. ⌜ r ≡ withConfig config m ⌝ }
+{
+    Module {
+        config: config,
+        ..m
+    }
+}
+
+// Whether a write is refused, and why: the first cause that holds.
+fn write_verdict(register: Register, v: u8) -> Verdict
+    ensures { λ r. ⌜ r ≡ verdictOf register v ⌝ }
+{
+    let done = Verdict::Done(0);
+    let reserved = Verdict::Refused(Refusal::ReservedBit);
+    let no_mode = Verdict::Refused(Refusal::NoMode);
+    match register {
+        Register::Buf => done,
+        Register::Stat => done,
+        Register::Con1 => {
+            let modelled = (v / 4 % 2 == 1) & (v / 2 % 2 == 1) & !(v / 1 % 2 == 1);
+            refusals::pick_verdict((v / 32 % 2 == 1) & !modelled, no_mode, done)
+        }
+        Register::Con2 => refusals::pick_verdict(!(v / 2 % 16 == 0), reserved, done),
+        Register::Con3 => refusals::pick_verdict(v / 16 % 2 == 1, reserved, done),
+        Register::Add => done,
+        Register::Msk => done,
+        Register::Flag => done,
+        Register::Nowhere => Verdict::Refused(Refusal::NoRegister),
+    }
+}
+
+// The effect of a write that is not refused.
+fn take(m: Module, register: Register, v: u8) -> Module
+    ensures { λ r. ⌜ r ≡ written register v m ⌝ }
+{
+    let mut c = m.config;
+    match register {
+        Register::Buf => mssp::load(m, v),
+        Register::Stat => with_config(m, write_stat(c, v)),
+        Register::Con1 => write_con1(m, v),
+        Register::Con2 => with_config(m, write_con2(c, v)),
+        Register::Con3 => with_config(m, write_con3(c, v)),
+        Register::Add => {
+            c.add = v;
+            with_config(m, c)
+        }
+        Register::Msk => {
+            c.msk = v;
+            with_config(m, c)
+        }
+        Register::Flag => write_flag(m, v),
+        Register::Nowhere => m,
+    }
+}
+
+// A write. A refused one changes nothing.
+pub fn write(m: Module, number: u8, v: u8) -> Access
+    ensures { λ r. ⌜ r ≡ writeOf m number v ⌝ }
+{
+    let register = registers::register_of(number);
+    let verdict = write_verdict(register, v);
+    let taken = take(m, register, v);
+    let next = mssp::pick_module(refusals::is_accepted(verdict), taken, m);
+    Access {
+        verdict: verdict,
+        mssp: next,
+    }
+}
