@@ -55,10 +55,12 @@ build_all() {
 try build build_all
 
 build_checked() {
-    for program in replay agree checks sequences capture cut wirebytes; do
+    for program in replay checks sequences capture cut wirebytes; do
         gcc $strict $checked -o "$out/checked_$program" tests/$program.c $second $plain || return 1
     done
-    gcc $strict $checked -o "$out/checked_dense" tests/dense.c tests/traffic.c $second || return 1
+    for program in agree dense; do
+        gcc $strict $checked -o "$out/checked_$program" tests/$program.c tests/traffic.c $second $plain || return 1
+    done
     gcc $strict $checked -o "$out/checked_corpus" tests/fuzz/door_fuzz.c tests/fuzz/corpus_main.c tests/fuzz/step.c $second
 }
 try build_checked build_checked

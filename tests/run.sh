@@ -40,7 +40,7 @@ both() { # both NAME EXTRA-SOURCE ARGUMENTS..
     try "second_$name" $RUN "$out/second_$name" "$@"
 }
 both replay "" tests/vectors/base.txt
-both agree tests/second/plain.c 400000
+both agree "tests/second/plain.c tests/traffic.c" 400000
 both checks ""
 both refusals ""
 both mangle tests/traffic.c "$mutations"

@@ -132,10 +132,16 @@ static unsigned some_pointer(traffic *t)
     return pick == 1 ? 255 : (t->n - pick) & 0xFFu;
 }
 
+/* How many bytes follow an address: mostly few, at times more than the memory has. */
+static unsigned some_length(traffic *t)
+{
+    return traffic_below(t, t->longest > 0 && traffic_once_in(t, 60) ? t->longest : 6);
+}
+
 /* A message. */
 void traffic_message(traffic *t)
 {
-    unsigned address = some_address(t), length = traffic_below(t, 6), i;
+    unsigned address = some_address(t), length = some_length(t), i;
     int whole;
 
     start(t);

@@ -7,7 +7,7 @@ use lib.Dec.{eqb, ltb}
 use Rattle.refusals.specs.declared.Refusal.the-variants.{NoWindow}
 use Rattle.mssp.specs.declared.Module.{Module}
 use Rattle.mssp.specs.Module.{moduleOf, setup, setSSPIF}
-use Rattle.mssp.specs.Effects.{emptied, loaded, released}
+use Rattle.effects.specs.Effects.{emptied, loaded, released}
 use Rattle.memory.specs.Memory.{Memory, memoryOf, peeked, laidOut, put}
 use Rattle.firmware.specs.declared.Handler.{Handler}
 use Rattle.firmware.specs.declared.State.{State}

@@ -68,7 +68,7 @@ fn address(s: State) -> State
     let mut h = s.handler;
     h.due = true;
     State {
-        mssp: mssp::release(mssp::empty(m)),
+        mssp: effects::release(effects::empty(m)),
         handler: h,
     }
 }
@@ -80,10 +80,10 @@ fn send(s: State, window: &[u8]) -> State
     let m = s.mssp;
     let mut h = s.handler;
     let byte = memory::peek(window, h.pointer);
-    let read = mssp::pick_module(m.live.da, m, mssp::empty(m));
+    let read = mssp::pick_module(m.live.da, m, effects::empty(m));
     h.pointer = memory::step(h.n, h.pointer);
     State {
-        mssp: mssp::release(mssp::load(read, byte)),
+        mssp: effects::release(effects::load(read, byte)),
         handler: h,
     }
 }
@@ -95,7 +95,7 @@ fn take(s: State, window: &mut [u8]) -> State
     let m = s.mssp;
     let mut h = s.handler;
     let byte = m.live.buf;
-    let next = mssp::release(mssp::empty(m));
+    let next = effects::release(effects::empty(m));
     if h.due {
         h.pointer = memory::aim(h.n, byte);
     } else {

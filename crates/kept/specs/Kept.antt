@@ -21,7 +21,7 @@ use Rattle.mssp.specs.declared.Phase.the-variants.{Quiet, Address, Data, HeldBe
 use Rattle.mssp.specs.declared.Module.{Module}
 use Rattle.mssp.specs.Module.{fresh, setup, modelled}
 use Rattle.mssp.specs.Drivers.{sclPulled, sdaPulled}
-use Rattle.mssp.specs.Effects.{emptied, releasedPhase, released, disabled}
+use Rattle.effects.specs.Effects.{emptied, releasedPhase, released, disabled}
 use Rattle.mssp.specs.Valid.{Valid, bitsFit, noBits, partsFit, isQuiet, addressBegins, eightBits, modeFits, offFits, markFits, eightFit, holdFits}
 use Rattle.sampling.specs.Rules.{seen, seenIf, sampled}
 use Rattle.registers.specs.declared.Register.{Register}

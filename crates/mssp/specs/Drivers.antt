@@ -41,16 +41,6 @@ isSending HeldForSending = false
 isSending (Sending byte place) = true
 isSending MasterAcknowledge = false
 
-abbrev pub heldForSending : Phase → Bool
-heldForSending Quiet = false
-heldForSending (Address bits) = false
-heldForSending (Data bits held) = false
-heldForSending (HeldBefore refused) = false
-heldForSending (Slot pulling) = false
-heldForSending HeldForSending = true
-heldForSending (Sending byte place) = false
-heldForSending MasterAcknowledge = false
-
 -- The three holds.
 pub data Holds : Phase → Type 0 where
   before-data : {bits : Bits} → Holds (Data bits true)

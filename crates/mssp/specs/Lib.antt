@@ -1,4 +1,3 @@
 pub mod Module
 pub mod Drivers
-pub mod Effects
 pub mod Valid

@@ -8,7 +8,7 @@ use mathlib.Core.List.{List, [], _∷_}
 use mir.Val.{boolByte}
 use Rattle.wire.specs.Byte.{bit}
 use Rattle.mssp.specs.declared.Module.{Module}
-use Rattle.mssp.specs.Drivers.{heldForSending}
+use Rattle.effects.specs.Effects.{heldForSending}
 use Rattle.registers.specs.declared.Register.{Register}
 use Rattle.registers.specs.declared.Register.the-variants.{Buf, Stat, Con1, Con2, Con3, Add, Msk, Flag, Nowhere}
 use Rattle.registers.specs.Values.{valueOf, registerOf}

@@ -10,7 +10,7 @@ use Rattle.refusals.specs.declared.Verdict.the-variants.{Done, Refused}
 use Rattle.mssp.specs.declared.Config.{Config}
 use Rattle.mssp.specs.declared.Live.{Live}
 use Rattle.mssp.specs.declared.Module.{Module}
-use Rattle.mssp.specs.Effects.{emptied}
+use Rattle.effects.specs.Effects.{emptied}
 use Rattle.register_bytes.specs.Bytes.{statOf, con1Of, con2Of, con3Of}
 use Rattle.registers.specs.declared.Register.{Register}
 use Rattle.registers.specs.declared.Register.the-variants.{Buf, Stat, Con1, Con2, Con3, Add, Msk, Flag, Nowhere}

@@ -89,7 +89,7 @@ fn after_read(m: Module, register: Register) -> Module
     ensures { λ r. ⌜ r ≡ afterRead register m ⌝ }
 {
     match register {
-        Register::Buf => mssp::empty(m),
+        Register::Buf => effects::empty(m),
         Register::Stat => m,
         Register::Con1 => m,
         Register::Con2 => m,

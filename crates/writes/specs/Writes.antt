@@ -11,7 +11,7 @@ use Rattle.refusals.specs.declared.Verdict.the-variants.{Done, Refused}
 use Rattle.mssp.specs.declared.Config.{Config}
 use Rattle.mssp.specs.declared.Module.{Module}
 use Rattle.mssp.specs.Module.{moduleOf, configOf, modelled, setADD, setMSK, setCKP, setSSPOV, setSSPIF}
-use Rattle.mssp.specs.Effects.{loaded, released, disabled}
+use Rattle.effects.specs.Effects.{loaded, released, disabled}
 use Rattle.registers.specs.Values.{registerOf, accessOf}
 use Rattle.registers.specs.declared.Register.{Register}
 use Rattle.registers.specs.declared.Register.the-variants.{Buf, Stat, Con1, Con2, Con3, Add, Msk, Flag, Nowhere}

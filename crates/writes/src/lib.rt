@@ -71,9 +71,9 @@ fn write_con1(m: Module, v: u8) -> Module
     let off = m.config.sspen & !(v / 32 % 2 == 1);
     let stored = store_con1(m, v);
     if off {
-        mssp::disable(stored)
+        effects::disable(stored)
     } else if v / 16 % 2 == 1 {
-        mssp::release(stored)
+        effects::release(stored)
     } else {
         stored
     }
@@ -126,7 +126,7 @@ fn take(m: Module, register: Register, v: u8) -> Module
 {
     let mut c = m.config;
     match register {
-        Register::Buf => mssp::load(m, v),
+        Register::Buf => effects::load(m, v),
         Register::Stat => with_config(m, write_stat(c, v)),
         Register::Con1 => write_con1(m, v),
         Register::Con2 => with_config(m, write_con2(c, v)),

@@ -1,8 +1,8 @@
--- `mssp::release` meets its contract.
+-- `effects::release` meets its contract.
 -- Assumes nothing.
 use borrow.Author.Needs.{needs}
-use Rattle.mssp.proofs.release.Statement.{statement}
-use Rattle.mssp.proofs.release.Tie as tie
+use Rattle.effects.proofs.release.Statement.{statement}
+use Rattle.effects.proofs.release.Tie as tie
 
 pub release-spec : {M : Type 1} → statement M
 release-spec =

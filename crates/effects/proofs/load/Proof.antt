@@ -1,8 +1,8 @@
--- `mssp::load` meets its contract.
+-- `effects::load` meets its contract.
 -- Assumes nothing.
 use borrow.Author.Needs.{needs}
-use Rattle.mssp.proofs.load.Statement.{statement}
-use Rattle.mssp.proofs.load.Tie as tie
+use Rattle.effects.proofs.load.Statement.{statement}
+use Rattle.effects.proofs.load.Tie as tie
 
 pub load-spec : {M : Type 1} → statement M
 load-spec =

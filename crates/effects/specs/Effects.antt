@@ -3,16 +3,25 @@
 -- Assumes nothing.
 use Prim.Native.Nat.{ℕ}
 use mathlib.Core.Bool.{Bool, true, false, cond, _||_, not}
 use Rattle.mssp.specs.declared.Phase.{Phase}
 use Rattle.mssp.specs.declared.Phase.the-variants.{Quiet, Address, Data, HeldBefore, Slot, HeldForSending, Sending, MasterAcknowledge}
 use Rattle.mssp.specs.declared.Module.{Module}
 use Rattle.wire.specs.declared.Line.{Line}
 use Rattle.mssp.specs.Module.{moduleOf, setS, setP, setDA, setRW, setBF, setACKTIM, setBUF, setCKP, setWCOL}
-use Rattle.mssp.specs.Drivers.{heldForSending}
 
 -- A read of BUF clears BF.
 abbrev pub emptied : Module → Module
 emptied m = moduleOf (m .config) (setBF false (m .live)) (m .phase) (m .line)
+
+abbrev pub heldForSending : Phase → Bool
+heldForSending Quiet = false
+heldForSending (Address bits) = false
+heldForSending (Data bits held) = false
+heldForSending (HeldBefore refused) = false
+heldForSending (Slot pulling) = false
+heldForSending HeldForSending = true
+heldForSending (Sending byte place) = false
+heldForSending MasterAcknowledge = false
 
 -- A write to BUF takes effect, with BF, while the clock is held for sending; else it sets WCOL and no more.
 abbrev pub loadedIf : Bool → ℕ → Module → Module

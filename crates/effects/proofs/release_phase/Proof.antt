@@ -1,8 +1,8 @@
--- `mssp::release_phase` meets its contract.
+-- `effects::release_phase` meets its contract.
 -- Assumes nothing.
 use borrow.Author.Needs.{needs}
-use Rattle.mssp.proofs.release_phase.Statement.{statement}
-use Rattle.mssp.proofs.release_phase.Tie as tie
+use Rattle.effects.proofs.release_phase.Statement.{statement}
+use Rattle.effects.proofs.release_phase.Tie as tie
 
 pub release-phase-spec : {M : Type 1} → statement M
 release-phase-spec =
