@@ -1,7 +1,7 @@
 -- The address comparison (01, "From levels to bytes", Address).
 -- Assumes nothing.
 use Prim.Native.Nat.{ℕ, _/_, _%_, _^_}
-use mathlib.Core.Bool.{Bool, true, false, _&&_, _||_}
+use mathlib.Core.Bool.{Bool, _&&_, _||_}
 use lib.Dec.{eqb}
 
 -- MSK does not ask for bit i, or the byte has ADD's.

@@ -17,7 +17,7 @@ use Rattle.firmware.specs.declared.Made.the-variants.{Ready}
 use Rattle.firmware.specs.Handler.{setupOf, called}
 use Rattle.reader.specs.declared.Reader.{Reader}
 use Rattle.plain.specs.Device.{Plain, owes}
-use Rattle.agreement.specs.Joint.{Item, Joint, held, pulled, memory, handlerRuns, run, afresh, Agrees}
+use Rattle.agreement.specs.Joint.{Item, memory, run, afresh, Agrees}
 use Rattle.agreement.specs.Simulation.{Rel, resting, foreign, refused, passing, addressing, ours-low, ours-high, byte-low, byte-high, held-ours, held-byte, taking, held-load, sent-low, sent-high, asked-low, asked-high, run-kept, begins}
 
 -- While SCL is high the bit just taken is the one on the wire.

@@ -1,14 +1,12 @@
 -- The simulation behind demand 3: which joint states there are, and that every item keeps to them.
 -- Assumes nothing.
-use Prim.Native.Nat.{ℕ, _+_, _<_, _%_}
+use Prim.Native.Nat.{ℕ, _+_, _<_}
 use mathlib.Core.Path.{_≡_, refl, sym, subst}
-use mathlib.Core.Bool.{Bool, true, false, _||_, not, cond}
+use mathlib.Core.Bool.{Bool, true, false, not}
 use mathlib.Core.List.{List, [], _∷_}
-use mathlib.Core.Logic.{_≢_}
 use native.Mathlib.Nat.{mod-eq-of-lt}
-use native.Mathlib.Numerals.{add-one}
 use native.Mathlib.Omega.{arith}
-use lib.Dec.{eqb, ltb, eqb·suc-suc, lit<}
+use lib.Dec.{eqb, ltb, lit<}
 use lib.ListN.{length}
 use borrow.Author.Tests.{ltb-true, ltb-false, eq-eqb, ne-eqb}
 use Rattle.truth.specs.Tests.{by-test, or-false}
@@ -36,13 +34,12 @@ use Rattle.firmware.specs.declared.State.{State}
 use Rattle.firmware.specs.Handler.{stateOf, handlerOf, called}
 use Rattle.reader.specs.declared.Ninth.{Ninth}
 use Rattle.reader.specs.declared.Ninth.the-variants.{Waiting, Got}
-use Rattle.reader.specs.declared.Place.{Place}
 use Rattle.reader.specs.declared.Place.the-variants.{Idle, Within, Ending}
 use Rattle.plain.specs.declared.Turn.the-variants.{Off, Writing, Reading}
 use Rattle.reader.specs.declared.Reader.{Reader}
 use Rattle.reader.specs.Reader.{readerOf, withinFall, placeAfter, heardAt}
-use Rattle.plain.specs.Device.{Plain, plainOf, own, hears, owes}
-use Rattle.agreement.specs.Joint.{Item, sample, call, Joint, held, pulled, memory, beforeAfter, ninthAfter, bothSee, handlerRuns, step, run, afresh, Agrees}
+use Rattle.plain.specs.Device.{Plain, plainOf, own, hears}
+use Rattle.agreement.specs.Joint.{Item, sample, call, Joint, held, pulled, memory, beforeAfter, ninthAfter, step, run, afresh}
 
 -- Which edge a change of the wire can be.
 pub data Move : Remembered → Remembered → Edge → Type 0 where

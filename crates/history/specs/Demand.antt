@@ -2,7 +2,7 @@
 -- state. `history::after` is proved to give that fold, for every list of items, every count and every state.
 -- Assumes nothing.
 use Prim.Native.Nat.{ℕ, suc, _<_}
-use mathlib.Core.Path.{_≡_, refl, ap, _∙_}
+use mathlib.Core.Path.{_≡_, refl}
 use mathlib.Core.List.{List, [], _∷_, _++_}
 use lib.ListN.{length, take, getD}
 use lib.Seq.{take-suc}

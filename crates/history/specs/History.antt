@@ -1,7 +1,7 @@
 -- A history of samples and register accesses, and the state after it: the definitions' fold (demand 2).
 -- Assumes nothing.
 use Prim.Native.Nat.{ℕ, _/_, _%_}
-use mathlib.Core.Bool.{Bool, true, false, cond}
+use mathlib.Core.Bool.{cond}
 use mathlib.Core.List.{List, [], _∷_}
 use lib.Dec.{eqb, ltb}
 use Rattle.wire.specs.Wire.{sclOf, sdaOf}

@@ -18,7 +18,6 @@ use Rattle.module_image.specs.ModulePart.{moduleLength, modulePart, moduleFrom}
 use Rattle.module_image.specs.Laws.{mark-back, module-back}
 use Rattle.image.specs.HandlerPart.{low, high, word, handlerPart, handlerFrom}
 use Rattle.image.specs.Image.{imageLength, validState, encodeOf, parseOf, sameBytes, decodeOf}
-use Rattle.image.specs.declared.Decoded.{Decoded}
 use Rattle.image.specs.declared.Decoded.the-variants.{Valid, NoImage}
 
 -- ---- a state comes back from its image

@@ -1,13 +1,13 @@
 -- What one edge keeps of each clause of a state (01, "A state is any setting of ..").
 -- Assumes nothing.
-use Prim.Native.Nat.{ℕ, suc, _+_, _*_, _%_, _^_, _<_, _≤_}
+use Prim.Native.Nat.{ℕ, _+_, _*_, _%_, _^_, _<_, _≤_}
 use mathlib.Core.Path.{_≡_, refl}
 use mathlib.Core.Bool.{Bool, true, false, cond, _||_, _&&_, not}
 use native.Mathlib.Omega.{arith}
 use native.Mathlib.Nat.{mod-eq-of-lt, pow-suc}
 use native.Mathlib.Numerals.{add-one}
 use mir.Val.{boolByte}
-use lib.Dec.{T, T-not, not-T, eqb, leb, ltb, leb→le, ltb→lt, le→leb, lt→ltb, eqb-refl}
+use lib.Dec.{T, T-not, leb, ltb, leb→le, ltb→lt, le→leb, lt→ltb}
 use borrow.Author.Tests.{ltb-true}
 use Rattle.truth.specs.Tests.{and-both, and-left, and-right, or-left, or-right, or-false}
 use Rattle.wire.specs.declared.Bits.{Bits}
@@ -16,7 +16,7 @@ use Rattle.wire.specs.declared.Remembered.the-variants.{Nothing, Wire}
 use Rattle.wire.specs.declared.Edge.{Edge}
 use Rattle.wire.specs.declared.Edge.the-variants.{Still, Start, Stop, Rise, Fall}
 use Rattle.wire.specs.Byte.{bit, none, pushed, whole}
-use Rattle.wire.specs.Wire.{condition, edgeFrom, isStart, sclHigh}
+use Rattle.wire.specs.Wire.{condition, edgeFrom, isStart}
 use Rattle.wire.specs.Laws.{one}
 use Rattle.address.specs.Match.{matching}
 use Rattle.mssp.specs.declared.Config.{Config}
@@ -24,10 +24,9 @@ use Rattle.mssp.specs.declared.Live.{Live}
 use Rattle.mssp.specs.declared.Phase.{Phase}
 use Rattle.mssp.specs.declared.Phase.the-variants.{Quiet, Address, Data, HeldBefore, Slot, HeldForSending, Sending, MasterAcknowledge}
 use Rattle.mssp.specs.Module.{setDA, setRW}
-use Rattle.mssp.specs.Drivers.{sclPulled}
-use Rattle.mssp.specs.Valid.{bitsFit, noBits, partsFit, addressBegins, eightBits, oneCondition, markFits, eightFit, holdFits}
+use Rattle.mssp.specs.Valid.{bitsFit, partsFit, addressBegins, eightBits, oneCondition, markFits, eightFit, holdFits}
 use Rattle.sampling.specs.declared.Moved.{Moved}
-use Rattle.sampling.specs.Rules.{_at_, intake, addressIf, addressFallIf, dataFallIf, slotEnded, bitSentIf, answered, fallen, risen, edgeStep}
+use Rattle.sampling.specs.Rules.{_at_, intake, addressIf, addressFallIf, dataFallIf, bitSentIf, fallen, risen, edgeStep}
 
 low : (s b : Bool) → T (s && false && b) → ⊥
 low true b t = t

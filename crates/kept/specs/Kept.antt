@@ -5,25 +5,19 @@ use mathlib.Core.Path.{_≡_, refl, sym}
 use mathlib.Core.Bool.{Bool, true, false, true≢false, cond, _||_, _&&_, not}
 use lib.Dec.{T}
 use Rattle.truth.specs.Tests.{and-both, and-left, and-right, or-left, or-right}
-use Rattle.wire.specs.declared.Line.{Line}
-use Rattle.wire.specs.declared.Remembered.{Remembered}
-use Rattle.wire.specs.declared.Remembered.the-variants.{Nothing, Wire}
-use Rattle.wire.specs.declared.Edge.the-variants.{Still}
 use Rattle.wire.specs.Byte.{bit}
 use Rattle.wire.specs.Wire.{edgeOf, onWire}
 use Rattle.refusals.specs.declared.Verdict.the-variants.{Done, Refused}
 use Rattle.refusals.specs.declared.Refusal.the-variants.{NoMode}
 use Rattle.refusals.specs.Numbers.{accepted}
-use Rattle.mssp.specs.declared.Config.{Config}
-use Rattle.mssp.specs.declared.Live.{Live}
 use Rattle.mssp.specs.declared.Phase.{Phase}
 use Rattle.mssp.specs.declared.Phase.the-variants.{Quiet, Address, Data, HeldBefore, Slot, HeldForSending, Sending, MasterAcknowledge}
 use Rattle.mssp.specs.declared.Module.{Module}
 use Rattle.mssp.specs.Module.{fresh, setup, modelled}
 use Rattle.mssp.specs.Drivers.{sclPulled, sdaPulled}
-use Rattle.effects.specs.Effects.{emptied, releasedPhase, released, disabled}
-use Rattle.mssp.specs.Valid.{Valid, bitsFit, noBits, partsFit, isQuiet, addressBegins, eightBits, modeFits, offFits, markFits, eightFit, holdFits}
-use Rattle.sampling.specs.Rules.{seen, seenIf, sampled}
+use Rattle.effects.specs.Effects.{emptied, releasedPhase, released}
+use Rattle.mssp.specs.Valid.{Valid, bitsFit, noBits, partsFit, isQuiet, addressBegins, eightBits, modeFits, holdFits}
+use Rattle.sampling.specs.Rules.{seenIf, sampled}
 use Rattle.registers.specs.declared.Register.{Register}
 use Rattle.registers.specs.declared.Register.the-variants.{Buf, Stat, Con1, Con2, Con3, Add, Msk, Flag, Nowhere}
 use Rattle.registers.specs.Values.{registerOf, afterRead, readOf}

@@ -21,7 +21,7 @@ use Rattle.memory.specs.Memory.{Memory, modulo, put}
 use Rattle.memory.specs.Laws.{modulo-below}
 use Rattle.firmware.specs.declared.Handler.{Handler}
 use Rattle.firmware.specs.declared.State.{State}
-use Rattle.firmware.specs.Handler.{handlerOf, memoryIn, acknowledged, serve, calledIf, called}
+use Rattle.firmware.specs.Handler.{handlerOf, memoryIn, acknowledged, serve, calledIf}
 use Rattle.reader.specs.declared.Ninth.the-variants.{Waiting, Got}
 use Rattle.reader.specs.declared.Place.{Place}
 use Rattle.reader.specs.declared.Place.the-variants.{Idle, Within, Ending}

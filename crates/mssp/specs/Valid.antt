@@ -1,11 +1,10 @@
 -- Which states there are (01, "Calls, refusals and their order", "A state is any setting of .."), clause by clause.
 -- Bits that are always 0 (UA, BOEN, CON2 4..1, flag 7..1) have no place in the state at all.
 -- Assumes nothing.
-use Prim.Native.Nat.{ℕ, _^_}
+use Prim.Native.Nat.{_^_}
 use mathlib.Core.Bool.{Bool, true, false, _&&_, _||_, not}
 use lib.Dec.{T, eqb, leb, ltb}
 use Rattle.wire.specs.declared.Bits.{Bits}
-use Rattle.wire.specs.declared.Line.{Line}
 use Rattle.wire.specs.declared.Remembered.{Remembered}
 use Rattle.wire.specs.Byte.{whole}
 use Rattle.wire.specs.Wire.{sclHigh}

@@ -1,7 +1,7 @@
 -- A phase as four bytes, the remembered wire as one, and the way back.
 -- Assumes nothing.
 use Prim.Native.Nat.{ℕ, _+_, _*_}
-use mathlib.Core.Bool.{Bool, true, false, cond}
+use mathlib.Core.Bool.{Bool, false, cond}
 use mir.Val.{boolByte}
 use lib.Dec.{eqb}
 use Rattle.wire.specs.declared.Bits.{Bits}

@@ -8,7 +8,6 @@ use lib.Dec.{eqb}
 use Rattle.wire.specs.declared.Bits.{Bits}
 use Rattle.wire.specs.Byte.{bit, zeroAt}
 use Rattle.memory.specs.Memory.{Memory, memoryOf, peeked, laidOut, put}
-use Rattle.reader.specs.declared.Ninth.{Ninth}
 use Rattle.reader.specs.declared.Place.{Place}
 use Rattle.reader.specs.declared.Place.the-variants.{Idle, Within, Ending}
 use Rattle.reader.specs.declared.Heard.{Heard}

@@ -12,7 +12,7 @@ use Rattle.refusals.specs.declared.Refusal.the-variants.{NoWindow}
 use Rattle.wire.specs.Wire.{sclOf, sdaOf}
 use Rattle.mssp.specs.declared.Module.{Module}
 use Rattle.mssp.specs.Module.{setup}
-use Rattle.effects.specs.Effects.{emptied, loaded, released}
+use Rattle.effects.specs.Effects.{emptied, loaded}
 use Rattle.mssp.specs.Valid.{Valid}
 use Rattle.registers.specs.declared.Register.the-variants.{Buf}
 use Rattle.kept.specs.Kept.{setup-valid, sample-kept, read-kept, write-kept, released-kept}

@@ -1,7 +1,7 @@
 -- A byte and its bits: one bit of a number, and the bits so far of a byte on the wire, most significant first.
 -- Assumes nothing.
 use Prim.Native.Nat.{ℕ, _+_, _*_, _-_, _/_, _%_, _^_}
-use mathlib.Core.Bool.{Bool, true, false}
+use mathlib.Core.Bool.{Bool}
 use mir.Val.{boolByte}
 use lib.Dec.{eqb}
 use Rattle.wire.specs.declared.Bits.{Bits}

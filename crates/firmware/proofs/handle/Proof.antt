@@ -1,7 +1,6 @@
 -- `firmware::handle` meets its contract.
 -- Assumes nothing.
 use borrow.Author.Needs.{needs}
-use denote.Ref.{now}
 use Rattle.firmware.specs.Laws.{call-idle, call-clears, call-sends, call-takes, call-addresses}
 use Rattle.firmware.proofs.handle.Statement.{statement}
 use Rattle.firmware.proofs.handle.Tie as tie

@@ -1,11 +1,10 @@
 -- `lines::put_all` meets its contract: the page is the one with the bytes passed so far.
 -- Assumes nothing.
 use Prim.Native.Nat.{_+_, _-_, _≤_}
-use mathlib.Core.Path.{_≡_, refl, sym, ap, _∙_}
-use borrow.Author.Needs.{needs}
+use mathlib.Core.Path.{_≡_, refl, _∙_}
 use native.Mathlib.Omega.{arith}
 use lib.ListN.{length, take}
-use Rattle.lines.specs.Page.{Page, page, penned}
+use Rattle.lines.specs.Page.{page, penned}
 use Rattle.lines.specs.Laws.{penned-at, penned-none, text-more, text-end}
 use Rattle.lines.proofs.put_all.Statement.{statement}
 use Rattle.lines.proofs.put_all.Tie as tie
