@@ -19,7 +19,8 @@ use Rattle.reader.specs.declared.Heard.the-variants.{Silence, Started, Stopped}
 use Rattle.plain.specs.declared.Turn.{Turn}
 use Rattle.reader.specs.declared.Reader.{Reader}
 use Rattle.reader.specs.Reader.{readerOf, heardAt, readerAfter, readerAfresh}
-use Rattle.reader.specs.Record.{Level, level, readOne, readAll, read-joined}
+use Rattle.reader.specs.Record.{Level, level, readOne, readAll}
+use Rattle.reader.specs.Laws.{read-joined}
 use Rattle.plain.specs.Device.{owes}
 
 abbrev line : Remembered → Bool → Line

@@ -17,7 +17,8 @@ use Rattle.refusals.specs.declared.Verdict.the-variants.{Done, Refused}
 use Rattle.refusals.specs.Numbers.{numberOf}
 use Rattle.wire.specs.Wire.{sclOf, sdaOf}
 use Rattle.mssp.specs.declared.Module.{Module}
-use Rattle.mssp.specs.Valid.{valid, clauses, test, Valid as ValidModule}
+use Rattle.mssp.specs.Valid.{valid, Valid as ValidModule}
+use Rattle.mssp.specs.Laws.{clauses, test}
 use Rattle.registers.specs.declared.Access.{Access}
 use Rattle.registers.specs.Values.{readOf}
 use Rattle.writes.specs.Writes.{writeOf}

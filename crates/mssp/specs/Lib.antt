@@ -1,3 +1,5 @@
 pub mod Module
 pub mod Drivers
 pub mod Valid
+pub mod Laws
+pub mod Theorems

@@ -1,8 +1,7 @@
 -- A wire record, read level by level: the reader over a whole record.
 -- Assumes nothing.
-use mathlib.Core.Path.{_≡_, refl}
 use mathlib.Core.Bool.{Bool}
-use mathlib.Core.List.{List, [], _∷_, _++_}
+use mathlib.Core.List.{List, [], _∷_}
 use Rattle.reader.specs.declared.Reader.{Reader}
 use Rattle.reader.specs.Reader.{readerAfter}
 
@@ -16,7 +15,3 @@ readOne r (level scl sda) = readerAfter r scl sda
 abbrev pub readAll : Reader → List Level → Reader
 readAll r [] = r
 readAll r (w ∷ ws) = readAll (readOne r w) ws
-
-pub read-joined : (r : Reader) (xs ys : List Level) → readAll r (xs ++ ys) ≡ readAll (readAll r xs) ys
-read-joined r [] ys = refl
-read-joined r (x ∷ xs) ys = read-joined (readOne r x) xs ys
