@@ -12,7 +12,7 @@ typedef struct {
     uint64_t seed;                         /* not 0 */
     uint8_t add;                           /* the address that most messages have */
     uint16_t n;                            /* the memory's length, for pointers near its ends */
-    unsigned longest;                      /* bytes, less one, that a rare long message has at most; 0: there is none */
+    unsigned longest;                      /* a rare long message has fewer bytes than this; 0: there is none */
     unsigned long left;                    /* items that may still be driven; nothing is driven at 0 */
     int held;                              /* what the last item answered */
     int (*take)(void *to, unsigned item);  /* takes a level or TRAFFIC_CALL; answers whether the clock is held after it */
