@@ -29,9 +29,9 @@ table() { # table WHAT
     END { exit NR == 0 }'
 }
 
-# The budgets of run and sample, from the lines of a table of instructions, which no other work on the machine changes; fails
-# where one is not kept. A step of run is an item at 2 samples per clock: there every sample is an edge, while at more a run
-# passes over many at once.
+# The budgets of run and sample, from the lines of a table; fails where one is not kept. Instructions are what is judged, since
+# no other work on the machine changes them; of times the verdict is only printed. A step of run is an item at 2 samples per
+# clock: there every sample is an edge, while at more a run passes over many at once.
 budgets() {
     awk '
     $3 / $4 > run { run = $3 / $4 }
@@ -88,16 +88,25 @@ build_counter() {
     return 1
 }
 
+# Times the four once more. The best of each stays in $out/times: another program can slow this machine for seconds on end, so
+# the times are taken at several moments.
+take_times() {
+    $RUN "$out/bench" >"$out/times_now" || return 1
+    touch "$out/times"
+    awk '
+    FILENAME == ARGV[1] { for (i = 3; i <= 6; i++) best[$1, i] = $i; next }
+    { for (i = 3; i <= 6; i++) if (($1, i) in best && best[$1, i] < $i) $i = best[$1, i]; print }
+    ' "$out/times" "$out/times_now" >"$out/times_best" && mv "$out/times_best" "$out/times"
+}
+
 status=0
+rm -f "$out/times"
+take_times || exit 1
 if [ -z "$RUN" ]; then
-    "$out/bench" >"$out/times" || exit 1
-    table "nanoseconds (best of several)" <"$out/times" || exit 1
-    echo
     need valgrind valgrind || exit 2
     counter="valgrind's callgrind"
 else
     echo "This machine is $(uname -m): the archive runs under an emulator, where times beside the second program mean nothing."
-    $RUN "$out/bench" >"$out/times" || exit 1
     counter="a plugin of the emulator"
 fi
 if [ -z "$RUN" ] || build_counter; then
@@ -110,5 +119,11 @@ else
     echo "The emulator takes no plugin that counts, so no instructions are given either."
 fi
 echo
+take_times || exit 1
+if [ -z "$RUN" ]; then
+    table "nanoseconds (best of several)" <"$out/times" || exit 1
+    budgets <"$out/times"
+    echo
+fi
 time_sigrok "$out/times" || status=1
 exit $status

@@ -139,7 +139,7 @@ time_sigrok() { # time_sigrok TIMES
         echo "sigrok-cli cannot be had, so there is no comparison with its times."
         return 0
     fi
-    at_each timed_item >"$out/sigrok" || return 1
+    at_each timed_item >"$out/sigrok" && take_times || return 1
     if [ -z "$RUN" ]; then
         sigrok_table "nanoseconds (best of several)" "$1" <"$out/sigrok" || return 0
     else

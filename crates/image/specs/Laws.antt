@@ -1,14 +1,15 @@
 -- Laws of the image that the code's proofs and the theorems cite.
 -- Assumes nothing.
-use Prim.Native.Nat.{ℕ, _-_, _≤_}
+use Prim.Native.Nat.{ℕ, _+_, _-_, _<_, _≤_}
 use mathlib.Core.Path.{_≡_, refl, sym, ap, _∙_}
-use mathlib.Core.Bool.{Bool, true, false, true≢false, cond, _&&_}
+use mathlib.Core.Bool.{Bool, true, false, cond, _&&_, and-assoc, and-true}
 use mathlib.Core.List.{List, [], _∷_, _++_, append-nil}
 use mir.Facts.{and-yes}
 use lib.Dec.{T, eqb, eqb→eq}
-use lib.ListN.{length, take, drop, replicate, length-drop, drop-of-length-le}
-use lib.Seq.{take-length, take-all}
+use lib.ListN.{length, take, drop, getD, replicate, length-drop, drop-of-length-le}
+use lib.Seq.{take-length, take-all, drop-cons}
 use native.Mathlib.Omega.{arith}
+use native.Mathlib.Numerals.{add-one}
 use borrow.Author.Tests.{eq-eqb}
 use Rattle.mssp.specs.declared.Module.{Module}
 use Rattle.firmware.specs.declared.Handler.{Handler}
@@ -55,10 +56,6 @@ pub holds : (t : Bool) → T t → t ≡ true
 holds true h = refl
 holds false h = absurd h
 
-fails : (t : Bool) → (T t → ⊥) → t ≡ false
-fails true h = absurd (h tt)
-fails false h = refl
-
 -- The parts copied one after the other over zeros.
 pub joined :
     (s : State) {first second once twice : List ℕ} → first ≡ modulePart (s .mssp) → second ≡ handlerPart (s .handler)
@@ -77,20 +74,27 @@ parsed b e f =
     let rest : length (drop moduleLength b) ≤ length b - moduleLength = simp length-drop (omega arith) in
     simp (e, f, take-all (length b - moduleLength) (drop moduleLength b) rest)
 
--- A comparison that is sound and complete is the definition's.
-compared :
-    (xs ys : List ℕ) (same : Bool) → (same ≡ true → xs ≡ ys) × (xs ≡ ys → same ≡ true) → same ≡ sameBytes xs ys
-compared xs ys true h = rw (h .0 refl) (sym (same-refl ys))
-compared xs ys false h =
-    sym (fails (sameBytes xs ys) (λ t. true≢false (sym (h .1 (same-equal xs ys t)))))
+-- Comparing byte by byte: what was found so far, and what the rest comes to.
+module _ (xs ys : List ℕ) (i : ℕ) (found : Bool) (l : length xs ≡ length ys) where
+  pub same-on :
+      i < length xs
+      → (found && eqb (getD xs i 0) (getD ys i 0)) && sameBytes (drop (i + 1) xs) (drop (i + 1) ys)
+      ≡ found && sameBytes (drop i xs) (drop i ys)
+  same-on h =
+      let k : i < length ys = omega arith in
+      rw (add-one, drop-cons xs i 0 h, drop-cons ys i 0 k, and-assoc)
+
+  pub same-end : length xs ≤ i → found && sameBytes (drop i xs) (drop i ys) ≡ found
+  same-end h =
+      let k : length ys ≤ i = omega arith in
+      rw (drop-of-length-le xs h, drop-of-length-le ys k, and-true)
 
 -- Bytes of the right length, by what the two tests together say.
 pub decoded :
     (b : List ℕ) {s : State} {image : List ℕ} {same good found : Bool} → s ≡ parseOf b → image ≡ encodeOf s
-    → (same ≡ true → image ≡ b) × (image ≡ b → same ≡ true) → good ≡ validState s → same && good ≡ found
-    → cond found (Valid s) NoImage ≡ decodeOf b
+    → same ≡ sameBytes image b → good ≡ validState s → same && good ≡ found → cond found (Valid s) NoImage ≡ decodeOf b
 unfolding decodeOf
-decoded b {s} {image} {same} e f g h i = simp (← i, h, compared image b same g, f, e)
+decoded b e f g h i = simp (← i, h, g, f, e)
 
 -- An image copied over bytes of its length is all there is.
 pub saved :

@@ -3,7 +3,7 @@ mod handler_part;
 
 ghost use mathlib.Core.Path.{_≡_};
 ghost use lib.ListN.{length};
-ghost use Rattle.image.specs.Image.{imageLength, encodeOf, parseOf, decodeOf, saveOf, validState};
+ghost use Rattle.image.specs.Image.{imageLength, encodeOf, parseOf, sameBytes, decodeOf, saveOf, validState};
 use firmware::State;
 use module_image::MODULE_LENGTH;
 
@@ -45,6 +45,20 @@ fn is_valid(s: State) -> bool
     validity::module_valid(s.mssp) & handler_part::handler_valid(s.handler)
 }
 
+// Whether rows of one length are the same. No byte is passed over, so that a processor may take many together.
+fn same(a: &[u8], b: &[u8]) -> bool
+    requires { ⌜ length (now a) ≡ length (now b) ⌝ }
+    ensures { λ r. ⌜ r ≡ sameBytes (now (a .entry)) (now (b .entry)) ⌝ }
+{
+    let mut alike = true;
+    let mut i = 0;
+    while i < a.len() {
+        alike = alike & (a[i] == b[i]);
+        i += 1;
+    }
+    alike
+}
+
 // The state whose image the bytes are, of whatever length they are.
 pub fn decode(bytes: &[u8]) -> Decoded
     ensures { λ r. ⌜ r ≡ decodeOf (now (bytes .entry)) ⌝ }
@@ -54,7 +68,7 @@ pub fn decode(bytes: &[u8]) -> Decoded
     }
     let s = parse(bytes);
     let image = encode(s);
-    if check::same(&image, bytes) & is_valid(s) {
+    if same(&image, bytes) & is_valid(s) {
         Decoded::Valid(s)
     } else {
         Decoded::NoImage
