@@ -39,14 +39,13 @@ second=tests/second/second.c
 plain=tests/second/plain.c
 
 build_all() {
-    for program in capture sequences; do
-        $CC_ARCHIVE $strict $door -O2 -o "$out/$program" tests/$program.c $plain "$archive" || return 1
+    for sources in "capture tests/player.c" sequences; do
+        program=${sources%% *}
+        $CC_ARCHIVE $strict $door -O2 -o "$out/$program" tests/$program.c ${sources#"$program"} $plain "$archive" || return 1
+        gcc $strict -O2 -o "$out/second_$program" tests/$program.c ${sources#"$program"} $second $plain || return 1
     done
     for program in wirebytes cut; do
         gcc $strict -O2 -o "$out/$program" tests/$program.c $plain || return 1
-    done
-    for program in capture sequences; do
-        gcc $strict -O2 -o "$out/second_$program" tests/$program.c $second $plain || return 1
     done
     $CC_ARCHIVE $strict $door -O2 -c -o "$out/step_archive.o" tests/fuzz/step.c || return 1
     $CC_ARCHIVE $strict -DFUZZ_ARCHIVE -O2 -o "$out/door_corpus" tests/fuzz/door_fuzz.c tests/fuzz/corpus_main.c \
@@ -55,11 +54,10 @@ build_all() {
 try build build_all
 
 build_checked() {
-    for program in replay checks sequences capture cut wirebytes; do
-        gcc $strict $checked -o "$out/checked_$program" tests/$program.c $second $plain || return 1
-    done
-    for program in agree dense; do
-        gcc $strict $checked -o "$out/checked_$program" tests/$program.c tests/traffic.c $second $plain || return 1
+    for sources in replay checks sequences cut wirebytes "capture tests/player.c" "agree tests/traffic.c" \
+        "dense tests/traffic.c"; do
+        program=${sources%% *}
+        gcc $strict $checked -o "$out/checked_$program" tests/$program.c ${sources#"$program"} $second $plain || return 1
     done
     gcc $strict $checked -o "$out/checked_corpus" tests/fuzz/door_fuzz.c tests/fuzz/corpus_main.c tests/fuzz/step.c $second
 }
@@ -119,22 +117,33 @@ same_as_report() { # what the report program prints for each input, beside the s
     done
     echo "inputs $count"
 }
-try fuzz_report same_as_report
+try fuzz_report_corpus same_as_report
 try fuzz_corpus $RUN "$out/door_corpus" 20000 tests/fuzz/corpus/door/*
 try fuzz_corpus_checked env ASAN_OPTIONS=detect_leaks=1 "$out/checked_corpus" 2000 tests/fuzz/corpus/door/*
 
-# The fuzzer itself runs natively: with the archive on x86-64, and everywhere with the second program.
-fuzz() { # fuzz SECONDS NAME SOURCES-AND-OPTIONS..
+# The fuzzer itself runs natively: everywhere with the second program, on x86-64 with the archive and with the report program.
+fuzz() { # fuzz SECONDS NAME CORPUS SOURCES-AND-OPTIONS..
     seconds=$1
     target=$2
-    shift 2
-    clang $strict $checked -fsanitize=fuzzer -o "$out/$target" tests/fuzz/door_fuzz.c tests/fuzz/step.c $second "$@" || return 1
+    corpus=$3
+    shift 3
+    clang $strict $checked -fsanitize=fuzzer -o "$out/$target" $second "$@" || return 1
     mkdir -p "$out/$target.found"
-    (cd "$out" && "./$target" -seed=1 -max_len=300 -max_total_time="$seconds" "$target.found" "$OLDPWD/tests/fuzz/corpus/door")
+    (cd "$out" && "./$target" -seed=1 -max_len=300 -max_total_time="$seconds" "$target.found" "$OLDPWD/$corpus")
 }
-try fuzz_second fuzz 5 fuzz_second
+fuzz_door="tests/fuzz/door_fuzz.c tests/fuzz/step.c"
+fuzz_report="-D_POSIX_C_SOURCE=200809L tests/fuzz/report_fuzz.c tests/player.c $plain"
+told_apart() { # a program that prints its input back is no report program, and the fuzzer has to say so
+    if (cd "$out" && REPORT=$(command -v cat) ./fuzz_report -runs=1000 -seed=1) >"$out/told" 2>&1; then return 1; fi
+    grep "^broken: " "$out/told"
+}
+try fuzz_second fuzz 5 fuzz_second tests/fuzz/corpus/door $fuzz_door
 if [ -z "$RUN" ]; then
-    try fuzz_archive fuzz 20 fuzz_archive -DFUZZ_ARCHIVE "$out/step_archive.o" "$archive"
+    try fuzz_archive fuzz 20 fuzz_archive tests/fuzz/corpus/door $fuzz_door -DFUZZ_ARCHIVE "$out/step_archive.o" "$archive"
+    REPORT=$(realpath "$report")
+    export REPORT
+    try fuzz_report fuzz 10 fuzz_report tests/fuzz/corpus/report $fuzz_report
+    try fuzz_report_spoiled told_apart
 fi
 
 # ---- Sanitizers ----
