@@ -117,29 +117,33 @@ timed_reading() { # timed_reading COPIES PAIRS
     all_read $(($1 * $2))
 }
 
-# A line 'samples-per-clock items bytes nanoseconds', the best of several rounds. The copies make the clocks about as many
-# whatever the samples per clock.
+# A line 'samples-per-clock items bytes nanoseconds', the best of these rounds and of all before them. The copies make the clocks
+# about as many whatever the samples per clock.
 timed_item() { # timed_item SAMPLES-PER-CLOCK
     local copies=$(($1 / 2 + 1)) items pairs round
     lay_wire timed_wire "$1" "$copies" || return 1
-    for round in 1 2 3 4 5; do
+    for round in 1 2 3; do
         timed_reading 1 "$pairs" && timed_reading "$copies" "$pairs" || return 1
-    done >"$out/rounds"
+    done >>"$out/rounds_$1"
     awk -v density="$1" -v items="$items" -v bytes=$((pairs * 19)) -v copies="$copies" '
     !($1 in best) || $2 < best[$1] { best[$1] = $2 }
     END {
         printf "%d %d %d %.3f\n", density, items, bytes, (best[copies] - best[1]) * 1e9 / (copies - 1) / items
-    }' "$out/rounds"
+    }' "$out/rounds_$1"
 }
 
 # The table by times, where sigrok can be had. Under an emulator, which slows run and sample alone, the ratios are only what is
 # left of them.
 time_sigrok() { # time_sigrok TIMES
+    local moment
     if ! need sigrok-cli sigrok-cli; then
         echo "sigrok-cli cannot be had, so there is no comparison with its times."
         return 0
     fi
-    at_each timed_item >"$out/sigrok" && take_times || return 1
+    rm -f "$out"/rounds_*
+    for moment in 1 2; do
+        at_each timed_item >"$out/sigrok" && take_times || return 1
+    done
     if [ -z "$RUN" ]; then
         sigrok_table "nanoseconds (best of several)" "$1" <"$out/sigrok" || return 0
     else

@@ -13,6 +13,7 @@ use Rattle.mssp.specs.Module.{moduleOf, setS, setP, setDA, setRW, setBF, setACK
 abbrev pub emptied : Module → Module
 emptied m = moduleOf (m .config) (setBF false (m .live)) (m .phase) (m .line)
 
+-- The one phase in which a byte that is written goes out.
 abbrev pub heldForSending : Phase → Bool
 heldForSending Quiet = false
 heldForSending (Address bits) = false

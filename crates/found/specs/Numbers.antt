@@ -5,8 +5,7 @@ use Rattle.refusals.specs.Numbers.{numberOf}
 use Rattle.found.specs.declared.Found.{Found}
 use Rattle.found.specs.declared.Found.the-variants.{Part, Refused}
 
--- The refusal (0 for none), the item beside it, and the part's start and length. A
--- refused call has the empty part at 0.
+-- The refusal (0 for none), the item beside it, and the part's start and length. A refused call has the empty part at 0.
 abbrev pub refusalOf : Found → ℕ
 refusalOf (Part start count) = 0
 refusalOf (Refused why item) = numberOf why
