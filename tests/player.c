@@ -60,7 +60,8 @@ static void print_line(player *p, size_t item, FILE *out)
     int brought = plain_level(&p->plain, now.wire);
 
     if (brought == PLAIN_BYTE)
-        fprintf(out, "%lu %c %02X %u %u\n", (unsigned long)item, before.first ? 'A' : 'D', before.byte, before.answer, now.pointer);
+        fprintf(out, "%lu %c %02X %u %u\n", (unsigned long)item, before.first ? 'A' : 'D', before.byte, before.answer,
+                now.pointer);
     else if (brought != PLAIN_NOTHING)
         fprintf(out, "%lu %c -- - %u\n", (unsigned long)item, brought == PLAIN_START ? 'S' : 'P', now.pointer);
 }

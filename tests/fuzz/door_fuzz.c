@@ -2,10 +2,9 @@
 
    With FUZZ_ARCHIVE the archive and the second program get the same calls and must answer and leave the same; without it
    the second program goes alone. */
+#include "promise.h"
 #include "step.h"
 
-#include <stdio.h>
-#include <stdlib.h>
 #include <string.h>
 
 enum { IMAGE = 48, LONGEST_IMAGE = 64, LONGEST_BUFFER = 300, LONGEST_BYTES = 4096, GUARD_BYTE = 0xA5, HANDLER_CALL = 4 };
@@ -32,15 +31,6 @@ typedef struct {
 } program;
 
 int LLVMFuzzerTestOneInput(const uint8_t *data, size_t size);
-
-/* A broken promise ends the run. */
-static void promise(int kept, const char *what)
-{
-    if (!kept) {
-        fprintf(stderr, "broken: %s\n", what);
-        abort();
-    }
-}
 
 /* ---- From bytes to calls ---- */
 
