@@ -54,14 +54,23 @@ build_all() {
 try build build_all
 
 build_checked() {
-    for sources in replay checks sequences cut wirebytes "capture tests/player.c" "agree tests/traffic.c" \
-        "dense tests/traffic.c"; do
+    for sources in replay checks refusals sequences cut wirebytes "capture tests/player.c" "agree tests/traffic.c" \
+        "dense tests/traffic.c" "mangle tests/traffic.c"; do
         program=${sources%% *}
         gcc $strict $checked -o "$out/checked_$program" tests/$program.c ${sources#"$program"} $second $plain || return 1
     done
     gcc $strict $checked -o "$out/checked_corpus" tests/fuzz/door_fuzz.c tests/fuzz/corpus_main.c tests/fuzz/step.c $second
 }
 try build_checked build_checked
+
+# What needs the archive itself can be checked so where the archive runs natively.
+build_checked_archive() {
+    gcc $strict $checked -Iinclude -o "$out/checked_compare" tests/compare.c tests/round.c tests/pair.c tests/traffic.c $second \
+        "$archive" &&
+        gcc $strict $checked -Iinclude -o "$out/checked_bench" bench/bench.c $second "$archive" &&
+        gcc $strict $checked -Iinclude -o "$out/checked_lanes" examples/lanes.c "$archive"
+}
+[ -n "$RUN" ] || try build_checked_archive build_checked_archive
 
 # ---- Step lists and captures ----
 
@@ -157,6 +166,23 @@ try checked_captures same_reports "$out/checked_capture" report -
 try checked_cut "$out/checked_cut" "$out"/wires/brief_*.bin
 try checked_wirebytes "$out/checked_wirebytes" "$out/sigrok/random.bin"
 try checked_wirebytes_s "$out/checked_wirebytes" -s "$out/sigrok/random.bin"
+try checked_refusals "$out/checked_refusals"
+try checked_mangle "$out/checked_mangle" 100000
+bench_checked() { # each way of feeding, at some samples per clock, and the wire
+    for function in wherryoar_run second_run wherryoar_sample second_sample; do
+        "$out/checked_bench" "$function" 20 1 || return 1
+    done
+    "$out/checked_bench" counted_wire 4 "$out/bench_wire"
+}
+lanes_checked() {
+    "$out/checked_lanes" examples/lanes.txt >"$out/lanes.out" && diff "$out/lanes.out" examples/lanes.out &&
+        echo "as in examples/lanes.out"
+}
+if [ -z "$RUN" ]; then
+    try checked_compare "$out/checked_compare" 200000
+    try checked_bench bench_checked
+    try checked_lanes lanes_checked
+fi
 
 echo "$passed passed, $failed failed"
 [ "$failed" -eq 0 ]
