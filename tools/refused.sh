@@ -5,7 +5,7 @@
 # Prints those that were not.
 set -u
 cd "$(dirname "$0")/.." || exit 2
-programs=0
+functions=0
 missing=0
 for edit in crates/*/must-fail/*.edit; do
     crate=${edit#crates/}
@@ -14,7 +14,7 @@ for edit in crates/*/must-fail/*.edit; do
     named=$(sed -n 's/^# \([a-z0-9_, ]*\): .*/\1/p' "$edit")
     if grep -q '^file: specs/' "$edit" && [ "$(echo "$named" | wc -l)" -lt 2 ]; then continue; fi
     for function in $(echo "$named" | sed 's/.* at //; s/,/ /g'); do
-        programs=$((programs + 1))
+        functions=$((functions + 1))
         if ! grep -q "^fn $crate::\([a-z_]*::\)\{0,1\}$function: \(not proved\$\|no proof: .* does not close\)" "$log" ||
             grep -q "/proofs/\([a-z_]*/\)\{0,1\}$function/.*: error: .*can be named from here" "$log"; then
             missing=$((missing + 1))
@@ -22,5 +22,5 @@ for edit in crates/*/must-fail/*.edit; do
         fi
     done
 done
-echo "wrong programs looked up $programs, not refused by the function named $missing"
-[ "$programs" -gt 0 ] && [ "$missing" -eq 0 ]
+echo "functions with a wrong program looked up $functions, that did not refuse it by themselves $missing"
+[ "$functions" -gt 0 ] && [ "$missing" -eq 0 ]
