@@ -92,12 +92,8 @@ installed() {
     rm -rf "$prefix"
     return $status
 }
-lanes() {
-    $RUN "$out/lanes" examples/lanes.txt >"$out/lanes.out" && diff "$out/lanes.out" examples/lanes.out &&
-        echo "as in examples/lanes.out"
-}
 try installed installed
-try lanes lanes
+try lanes same_lanes $RUN "$out/lanes"
 
 # The report program on its stored cases, byte for byte; a case too long and dull to store is printed by a script.
 text_of() { # text_of NAME.in or NAME.out

@@ -1,4 +1,5 @@
 # Sourced by the test scripts: a test is a command, whose output goes to a log under $out and whose end is told and counted.
+# And what both scripts test.
 passed=0
 failed=0
 try() { # try NAME COMMAND..
@@ -13,4 +14,9 @@ try() { # try NAME COMMAND..
         echo "test $tried: FAILED"
         tail -n 20 "$out/$tried.log"
     fi
+}
+
+# The example host draws its stored picture.
+same_lanes() { # same_lanes HOST..
+    "$@" examples/lanes.txt >"$out/lanes.out" && diff "$out/lanes.out" examples/lanes.out && echo "as in examples/lanes.out"
 }
