@@ -1,11 +1,32 @@
 #!/usr/bin/env bash
-# Builds the report program if need be and runs it on a file of digits 0 to 3 and h (no file: standard input).
+# Runs the report program on a file of digits 0 to 3 and h (no file: standard input), and builds it first if need be.
 set -u
 file=${1:-/dev/stdin}
 case $file in /*) ;; *) file=$(pwd)/$file ;; esac
 cd "$(dirname "$0")/.." || exit 2
 . tools/machine.sh >&2
 program=target/bin/report
-[ -x "$program" ] || rt check report >target-report.log 2>&1 || { cat target-report.log >&2; rm -f target-report.log; exit 1; }
-rm -f target-report.log
+
+# The program is built from proved crates alone. What is proved stays so, and an interrupted build goes on where it was.
+build() {
+    local crates log status
+    crates=$(tools/crates.sh below report | wc -l)
+    log=$(mktemp) || return 1
+    trap 'rm -f "$log"' EXIT
+    cat <<END
+Building the report program, once: the $crates crates that it is made of are proved first, which takes some minutes.
+That is why its lines can be relied on: they are proved to be what the rules say for every input, not for those tried.
+If you interrupt it, the next run goes on where this one was.
+END
+    rt check report 2>&1 | tee "$log" | awk -v crates="$crates" '
+    /^rt: [a-z0-9_]+ proved/ {
+        printf "crate %d of %d: %s\n", ++done, crates, substr($0, 5)
+        fflush()
+    }'
+    status=${PIPESTATUS[0]}
+    [ "$status" -eq 0 ] || tail -n 40 "$log"
+    return "$status"
+}
+
+[ -x "$program" ] || (build) >&2 || exit 1
 exec $RUN_PROGRAM "$program" <"$file"

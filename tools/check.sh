@@ -1,0 +1,73 @@
+#!/usr/bin/env bash
+# For work between two runs of the gate: proves what has changed and its users, tries the must-fail edits of those crates and
+# runs the quick C tests. What was proved, or tried, and has not changed since is not done again. The verdict stays .ci/run.
+set -u
+cd "$(dirname "$0")/.." || exit 2
+. tools/machine.sh
+status=0
+say() { # say STATUS WHAT
+    if [ "$1" -eq 0 ]; then echo "ok: $2"; else echo "FAILED: $2"; status=1; fi
+}
+
+# Proves what has changed and its users; tells of those, and all that was said where one is not proved.
+prove() {
+    mkdir -p target
+    if rt check >target/check.log 2>&1; then
+        grep '^rt: ' target/check.log | grep -v '(unchanged '
+    else
+        cat target/check.log
+        return 1
+    fi
+}
+
+# What the edits of a crate stand on: its own files, and the code and definitions, not the proofs, of all that it rests on.
+key_of() { # key_of CRATE
+    local crate
+    {
+        find "crates/$1" -type f -exec sha256sum {} +
+        for crate in $(tools/crates.sh below "$1"); do
+            find "crates/$crate/src" "crates/$crate/specs" -type f -exec sha256sum {} +
+        done
+    } | sort | sha256sum
+}
+
+# The crates with edits that have not been tried as they stand.
+untried() {
+    local crate
+    for crate in $(sed -n 's/^\([a-z0-9_]*\):.*/\1/p' crates.txt); do
+        ls "crates/$crate"/must-fail/*.edit >/dev/null 2>&1 || continue
+        [ "$(key_of "$crate")" = "$(cat "target/tried/$crate" 2>/dev/null)" ] || echo "$crate"
+    done
+}
+
+# Tries the edits of some crates, in a copy where no other crate has any: rt tries those of all that a crate rests on.
+try_edits() { # try_edits CRATE..
+    local copy=target/edits part crate
+    rm -rf "$copy" && mkdir -p "$copy/target" target/must-fail && cp -R crates crates.txt "$copy" || return 1
+    for part in rlib stamp log obj bin must-fail; do
+        [ ! -e "target/$part" ] || ln -s "../../$part" "$copy/target/$part"
+    done
+    for crate in "$copy"/crates/*; do
+        case " $* " in *" ${crate##*/} "*) ;; *) rm -rf "$crate/must-fail" ;; esac
+    done
+    (cd "$copy" && rt must-fail "$@") | grep -E '^rt: (must-fail|FAILED|ok)'
+    [ "${PIPESTATUS[0]}" -eq 0 ] && tools/edits.sh refused "$@"
+}
+
+rt fmt --check
+say $? "layout of the sources"
+tools/edits.sh contracts
+say $? "two wrong programs or definitions for each public contract"
+prove
+say $? "every crate proved"
+if [ "$status" -eq 0 ]; then
+    crates=$(untried)
+    if [ -n "$crates" ]; then
+        try_edits $crates
+        say $? "edits of" $crates
+        [ "$status" -ne 0 ] || { mkdir -p target/tried && for crate in $crates; do key_of "$crate" >"target/tried/$crate"; done; }
+    fi
+    tests/run.sh quick
+    say $? "quick C tests"
+fi
+exit "$status"
