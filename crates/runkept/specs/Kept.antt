@@ -23,6 +23,7 @@ use Rattle.firmware.specs.declared.State.{State}
 use Rattle.firmware.specs.declared.Made.the-variants.{Ready, Refused}
 use Rattle.firmware.specs.Handler.{handlerOf, stateOf, setupOf, memoryIn, acknowledged, serve, calledIf, called}
 use Rattle.firmware.specs.Window.{windowFits, windowOf}
+use Rattle.steps.specs.Step.{afterAll}
 use Rattle.trace.specs.Run.{firstBad, stepIf, stepOf, runFrom, runOf}
 use Rattle.trace.specs.Window.{choice, runInOf}
 
@@ -125,7 +126,7 @@ pub step-kept : (s : State) (bytes : List ℕ) (item : ℕ) → ValidState s →
 step-kept s bytes item v = step-if (ltb item 4) (eqb item 4) s bytes item v
 
 pub run-kept : (s : State) (bytes items : List ℕ) → ValidState s → ValidState (runOf s bytes items .state)
-unfolding runFrom
+unfolding afterAll
 run-kept s bytes [] v = v
 run-kept s bytes (x ∷ xs) v = run-kept (stepOf s bytes x .state) (stepOf s bytes x .bytes) xs (step-kept s bytes x v)
 

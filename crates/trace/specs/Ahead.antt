@@ -32,6 +32,7 @@ use Rattle.stretch.specs.Sampled.{placed, Sampled, bits-go, sending-goes, rest-
 use Rattle.firmware.specs.declared.Handler.{Handler}
 use Rattle.firmware.specs.declared.State.{State}
 use Rattle.firmware.specs.Handler.{Served, served, stateOf}
+use Rattle.steps.specs.Step.{afterAll}
 use Rattle.trace.specs.Run.{movedOn, stepIf, stepOf, runFrom}
 use Rattle.trace.specs.Theorems.{step-length}
 
@@ -43,7 +44,7 @@ module _ {P : Type 0} (stop : P → ℕ → Bool) (go : P → ℕ → P) (put : 
       ≡ runFrom (served (put (walked stop go (go p x) xs)) bytes) (drop (steps stop go (go p x) xs) xs)
       → runFrom (served (put p) bytes) (x ∷ xs)
       ≡ runFrom (served (put (cond t p (walked stop go (go p x) xs))) bytes) (drop (cond t 0 (suc (steps stop go (go p x) xs))) (x ∷ xs))
-  unfolding runFrom
+  unfolding afterAll
   step-runs true p x xs e rest = refl
   step-runs false p x xs e rest = ap (λ (v : Served). runFrom v xs) (law p x e) ∙ rest
 
@@ -169,7 +170,7 @@ module _ {s : State} {bytes items : List ℕ} {i : ℕ} {t : State} {window : Li
   pub run-next :
       {u : State} {left : List ℕ} → i < length items → served u left ≡ stepOf t window (getD items i 0)
       → Running s bytes items (i + 1) u left
-  unfolding runFrom
+  unfolding afterAll
   run-next h e =
       record {
         within = omega arith;
@@ -198,5 +199,5 @@ module _ {s : State} {bytes items : List ℕ} {i : ℕ} {t : State} {window : Li
       }
 
   pub run-end : length items ≤ i → served t window ≡ runFrom (served s bytes) items
-  unfolding runFrom
+  unfolding afterAll
   run-end h = rw (drop-of-length-le items h) at (before .rest)

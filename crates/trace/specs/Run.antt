@@ -1,8 +1,7 @@
 -- A run (01, "Calls, refusals and their order"): a trace of bytes, 0 to 3 a sample, 4 a handler call.
--- Assumes nothing.
 use Prim.Native.Nat.{ℕ}
 use mathlib.Core.Bool.{Bool, true, false}
-use mathlib.Core.List.{List, [], _∷_}
+use mathlib.Core.List.{List, map}
 use lib.Dec.{eqb, ltb}
 use Rattle.items.specs.First.{firstAbove}
 use Rattle.wire.specs.Wire.{sclOf, sdaOf}
@@ -11,7 +10,10 @@ use Rattle.sampling.specs.Rules.{sampled}
 use Rattle.stretch.specs.declared.Stretch.{Stretch}
 use Rattle.stretch.specs.Seen.{lineOf}
 use Rattle.firmware.specs.declared.State.{State}
-use Rattle.firmware.specs.Handler.{Served, served, stateOf, called}
+use Rattle.firmware.specs.Handler.{Served, served, stateOf}
+use Rattle.steps.specs.declared.Item.{Item}
+use Rattle.steps.specs.declared.Item.the-variants.{Sample, Call, Nothing}
+use Rattle.steps.specs.Step.{after, afterAll}
 
 -- The number of the first byte that is no item; the length where every byte is one.
 abbrev pub firstBad : List ℕ → ℕ
@@ -26,19 +28,25 @@ abbrev pub movedOn : State → Stretch → State
 movedOn s ahead =
     stateOf (moduleOf (s .mssp .config) (s .mssp .live) (ahead .phase) (lineOf (ahead .wire))) (s .handler)
 
--- One item: a sample, a handler call, or, where the byte is neither, nothing.
+-- A byte of a trace as an item.
+abbrev pub itemIf : Bool → Bool → ℕ → Item
+itemIf true call byte = Sample (sclOf byte) (sdaOf byte)
+itemIf false true byte = Call
+itemIf false false byte = Nothing
+
+abbrev pub itemAt : ℕ → Item
+itemAt byte = itemIf (ltb byte 4) (eqb byte 4) byte
+
+-- One byte's step.
 abbrev pub stepIf : Bool → Bool → State → List ℕ → ℕ → Served
-stepIf true call s bytes item = served (sampledBy s item) bytes
-stepIf false true s bytes item = called s bytes
-stepIf false false s bytes item = served s bytes
+stepIf level call s bytes byte = after (served s bytes) (itemIf level call byte)
 
 abbrev pub stepOf : State → List ℕ → ℕ → Served
-stepOf s bytes item = stepIf (ltb item 4) (eqb item 4) s bytes item
+stepOf s bytes byte = stepIf (ltb byte 4) (eqb byte 4) s bytes byte
 
--- All the items one after the other, each on the state and the window that the one before it left.
-unfoldable pub runFrom : Served → List ℕ → Served
-runFrom w [] = w
-runFrom w (item ∷ items) = runFrom (stepOf (w .state) (w .bytes) item) items
+-- All the items of a trace, from what there is.
+abbrev pub runFrom : Served → List ℕ → Served
+runFrom w trace = afterAll w (map itemAt trace)
 
 abbrev pub runOf : State → List ℕ → List ℕ → Served
-runOf s bytes items = runFrom (served s bytes) items
+runOf s bytes trace = runFrom (served s bytes) trace

@@ -16,6 +16,7 @@ use Rattle.firmware.specs.declared.State.{State}
 use Rattle.firmware.specs.Handler.{Served, served, acknowledged, memoryIn, serve, calledIf, called}
 use Rattle.firmware.specs.Window.{windowFits, windowOf, splice}
 use Rattle.firmware.specs.Laws.{inside}
+use Rattle.steps.specs.Step.{afterAll}
 use Rattle.trace.specs.Run.{firstBad, sampledBy, stepIf, stepOf, runFrom, runOf}
 use Rattle.trace.specs.Window.{Outcome, choice, runInOf}
 
@@ -23,12 +24,12 @@ use Rattle.trace.specs.Window.{Outcome, choice, runInOf}
 pub run-joined :
     (s : State) (bytes xs ys : List ℕ)
     → runOf s bytes (xs ++ ys) ≡ runOf (runOf s bytes xs .state) (runOf s bytes xs .bytes) ys
-unfolding runFrom
+unfolding afterAll
 run-joined s bytes [] ys = refl
 run-joined s bytes (x ∷ xs) ys = run-joined (stepOf s bytes x .state) (stepOf s bytes x .bytes) xs ys
 
 pub run-one : (s : State) (bytes : List ℕ) (item : ℕ) → runOf s bytes (item ∷ []) ≡ stepOf s bytes item
-unfolding runFrom
+unfolding afterAll
 run-one s bytes item = refl
 
 -- A run of one level is a sample.
@@ -44,7 +45,7 @@ pub after-each :
     (s : State) (bytes items : List ℕ) (k : ℕ) → k < length items
     → let before : Served = runOf s bytes (take k items) in
     runOf s bytes (take (suc k) items) ≡ stepOf (before .state) (before .bytes) (getD items k 0)
-unfolding runFrom
+unfolding afterAll
 after-each s bytes items k h = rw (take-suc items k 0) (run-joined s bytes (take k items) (getD items k 0 ∷ []))
 
 -- ---- the window keeps its length
@@ -75,7 +76,7 @@ pub step-length : (s : State) (bytes : List ℕ) (item : ℕ) → length (stepOf
 step-length s bytes item = step-if (ltb item 4) (eqb item 4) s bytes item
 
 pub run-length : (s : State) (bytes items : List ℕ) → length (runOf s bytes items .bytes) ≡ length bytes
-unfolding runFrom
+unfolding afterAll
 run-length s bytes [] = refl
 run-length s bytes (x ∷ xs) = run-length (stepOf s bytes x .state) (stepOf s bytes x .bytes) xs ∙ step-length s bytes x
 
