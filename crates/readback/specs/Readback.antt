@@ -16,7 +16,7 @@ use Rattle.register_bytes.specs.Bytes.{byteOf}
 use Rattle.writes.specs.Writes.{con1Stored, con1Then, written, writeOf}
 use Rattle.refusals.specs.Numbers.{accepted}
 use Rattle.register_bytes.specs.Bits.{bits-back}
-use Rattle.readback.specs.Bits.{byte-back}
+use Rattle.readback.specs.Bits.{eachBit, byte-back}
 
 -- What a register of a module holds.
 abbrev pub holds : Register → Module → ℕ
@@ -51,16 +51,7 @@ abbrev pub bitAfter : Bool → Bool → Bool → Bool → Bool
 bitAfter taken cleared old new = cond taken new (cond cleared (old && new) old)
 
 abbrev pub after : ℕ → ℕ → ℕ → ℕ → ℕ
-after taken cleared old new =
-    byteOf
-    (bitAfter (bit 7 taken) (bit 7 cleared) (bit 7 old) (bit 7 new))
-    (bitAfter (bit 6 taken) (bit 6 cleared) (bit 6 old) (bit 6 new))
-    (bitAfter (bit 5 taken) (bit 5 cleared) (bit 5 old) (bit 5 new))
-    (bitAfter (bit 4 taken) (bit 4 cleared) (bit 4 old) (bit 4 new))
-    (bitAfter (bit 3 taken) (bit 3 cleared) (bit 3 old) (bit 3 new))
-    (bitAfter (bit 2 taken) (bit 2 cleared) (bit 2 old) (bit 2 new))
-    (bitAfter (bit 1 taken) (bit 1 cleared) (bit 1 old) (bit 1 new))
-    (bitAfter (bit 0 taken) (bit 0 cleared) (bit 0 old) (bit 0 new))
+after taken cleared old new = eachBit (λ i. bitAfter (bit i taken) (bit i cleared) (bit i old) (bit i new))
 
 -- Of an old byte made of eight bits.
 made :
