@@ -45,9 +45,9 @@ ended-by-one-call (ours-high {i = i} e g) = elim i [ true ↦ refl | false ↦ r
 ended-by-one-call (byte-low {i = i}) = elim i [ true ↦ refl | false ↦ refl ]
 ended-by-one-call (byte-high {i = i}) = elim i [ true ↦ refl | false ↦ refl ]
 ended-by-one-call held-ours = refl
-ended-by-one-call (held-byte {due = i}) = elim i [ true ↦ refl | false ↦ refl ]
+ended-by-one-call (held-byte {due = due}) = elim due [ true ↦ refl | false ↦ refl ]
 ended-by-one-call (taking {i = i}) = elim i [ true ↦ refl | false ↦ refl ]
-ended-by-one-call (held-load {da = i}) = elim i [ true ↦ refl | false ↦ refl ]
+ended-by-one-call (held-load {da = da}) = elim da [ true ↦ refl | false ↦ refl ]
 ended-by-one-call (sent-low {i = i} h) = elim i [ true ↦ refl | false ↦ refl ]
 ended-by-one-call (sent-high b y {i = i} h) = elim i [ true ↦ refl | false ↦ refl ]
 ended-by-one-call (asked-low {i = i}) = elim i [ true ↦ refl | false ↦ refl ]

@@ -1,7 +1,7 @@
 -- The simulation behind demand 3: which joint states there are, and that every item keeps to them.
 -- Assumes nothing.
 use Prim.Native.Nat.{ℕ, _+_, _<_}
-use mathlib.Core.Path.{_≡_, refl, sym, subst}
+use mathlib.Core.Path.{_≡_, refl, sym}
 use mathlib.Core.Bool.{Bool, true, false, not}
 use mathlib.Core.List.{List, [], _∷_}
 use native.Mathlib.Nat.{mod-eq-of-lt}
@@ -25,13 +25,11 @@ use Rattle.mssp.specs.declared.Phase.{Phase}
 use Rattle.mssp.specs.declared.Phase.the-variants.{Quiet, Address, Data, Slot, HeldForSending, Sending, MasterAcknowledge}
 use Rattle.mssp.specs.declared.Module.{Module}
 use Rattle.mssp.specs.Module.{moduleOf, chosen, liveOf}
-use Rattle.mssp.specs.Drivers.{sclPulled, sdaPulled}
 use Rattle.sampling.specs.declared.Moved.{Moved}
 use Rattle.sampling.specs.Rules.{_at_, edgeStep, addressFallIf, dataFallIf, addressIf, bitSentIf}
 use Rattle.memory.specs.Memory.{Memory, memoryOf, peeked, laidOut, put}
 use Rattle.firmware.specs.declared.Handler.{Handler}
-use Rattle.firmware.specs.declared.State.{State}
-use Rattle.firmware.specs.Handler.{stateOf, handlerOf, called}
+use Rattle.firmware.specs.Handler.{stateOf, handlerOf}
 use Rattle.reader.specs.declared.Ninth.{Ninth}
 use Rattle.reader.specs.declared.Ninth.the-variants.{Waiting, Got}
 use Rattle.reader.specs.declared.Place.{Place}
@@ -141,7 +139,7 @@ pub data Rel (n add : ℕ) : Joint → Type 0 where
       → Rel n add (free n add (line (Wire true d) k) MasterAcknowledge (flags v false true true true i ks kt s p) pt due m (Ending false u (Got ks)) (Reading x) o q)
 
 -- The joint state after an edge e.
-edged : ℕ → ℕ → Edge → Bool → Bool → Joint → Joint
+unfoldable pub edged : ℕ → ℕ → Edge → Bool → Bool → Joint → Joint
 edged n add e scl sda j =
     let m : Module = j .state .mssp in
     let y : Line = lineAfter (m .line .mark) e scl sda in
@@ -297,39 +295,23 @@ looks l d asked-high stops = resting
 
 -- A handler call: nothing but SSPIF where the clock is not held; in a hold what the device has done already.
 calls : {n add : ℕ} {j : Joint} → Rel n add j → Rel n add (handlerRuns j)
-calls (resting {i = true}) = resting
-calls (resting {i = false}) = resting
-calls (foreign {i = true}) = foreign
-calls (foreign {i = false}) = foreign
-calls (refused {i = true} e) = refused e
-calls (refused {i = false} e) = refused e
-calls (passing {i = true}) = passing
-calls (passing {i = false}) = passing
-calls (addressing {i = true}) = addressing
-calls (addressing {i = false}) = addressing
-calls (ours-low {i = true} e g) = ours-low e g
-calls (ours-low {i = false} e g) = ours-low e g
-calls (ours-high {i = true} e g) = ours-high e g
-calls (ours-high {i = false} e g) = ours-high e g
-calls (byte-low {i = true}) = byte-low
-calls (byte-low {i = false}) = byte-low
-calls (byte-high {i = true}) = byte-high
-calls (byte-high {i = false}) = byte-high
+calls (resting {i = i}) = elim i [ true ↦ resting | false ↦ resting ]
+calls (foreign {i = i}) = elim i [ true ↦ foreign | false ↦ foreign ]
+calls (refused {i = i} e) = elim i [ true ↦ refused e | false ↦ refused e ]
+calls (passing {i = i}) = elim i [ true ↦ passing | false ↦ passing ]
+calls (addressing {i = i}) = elim i [ true ↦ addressing | false ↦ addressing ]
+calls (ours-low {i = i} e g) = elim i [ true ↦ ours-low e g | false ↦ ours-low e g ]
+calls (ours-high {i = i} e g) = elim i [ true ↦ ours-high e g | false ↦ ours-high e g ]
+calls (byte-low {i = i}) = elim i [ true ↦ byte-low | false ↦ byte-low ]
+calls (byte-high {i = i}) = elim i [ true ↦ byte-high | false ↦ byte-high ]
 calls held-ours = taking
-calls (held-byte {due = true}) = taking
-calls (held-byte {due = false}) = taking
-calls (taking {i = true}) = taking
-calls (taking {i = false}) = taking
-calls (held-load {da = true}) = sent-low {b = none} (lit< tt)
-calls (held-load {da = false}) = sent-low {b = none} (lit< tt)
-calls (sent-low {i = true} h) = sent-low h
-calls (sent-low {i = false} h) = sent-low h
-calls (sent-high b y {i = true} h) = sent-high b y h
-calls (sent-high b y {i = false} h) = sent-high b y h
-calls (asked-low {i = true}) = asked-low
-calls (asked-low {i = false}) = asked-low
-calls (asked-high {i = true}) = asked-high
-calls (asked-high {i = false}) = asked-high
+calls (held-byte {due = due}) = elim due [ true ↦ taking | false ↦ taking ]
+calls (taking {i = i}) = elim i [ true ↦ taking | false ↦ taking ]
+calls (held-load {da = da}) = elim da [ true ↦ sent-low {b = none} (lit< tt) | false ↦ sent-low {b = none} (lit< tt) ]
+calls (sent-low {i = i} h) = elim i [ true ↦ sent-low h | false ↦ sent-low h ]
+calls (sent-high b y {i = i} h) = elim i [ true ↦ sent-high b y h | false ↦ sent-high b y h ]
+calls (asked-low {i = i}) = elim i [ true ↦ asked-low | false ↦ asked-low ]
+calls (asked-high {i = i}) = elim i [ true ↦ asked-high | false ↦ asked-high ]
 
 -- The module runs, and both remember one line: they see one edge.
 running :
