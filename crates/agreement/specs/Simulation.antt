@@ -84,6 +84,7 @@ free n add y ph l pt due m place turn before ninth = both n add y ph l pt due m 
 abbrev hold : ℕ → ℕ → Line → Phase → Live → ℕ → Bool → List ℕ → Memory → Turn → Joint
 hold n add y ph l pt due m memory turn = both n add y ph l pt due m (Within false none) (plainOf memory turn) (memoryOf m pt) false
 
+-- The joint states, by the phase of the module and the place of the reader.
 pub data Rel (n add : ℕ) : Joint → Type 0 where
   resting :
       {z : Remembered} {v pt : ℕ} {k da rw i ks kt s p due : Bool} {m : List ℕ} {o : Memory} {q : Bool}
