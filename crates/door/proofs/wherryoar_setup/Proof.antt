@@ -6,12 +6,17 @@ use Rattle.door.specs.Laws.{setup-length, setup-refused, setup-ready}
 use Rattle.door.proofs.wherryoar_setup.Statement.{statement}
 use Rattle.door.proofs.wherryoar_setup.Tie as tie
 
+only-48-bytes : tie.Need-returns
+only-48-bytes c =
+    let a = c .before .before .before .args in
+    setup-length (now (a .state)) (a .add) (a .n) (c .before .if1 .taken) (c .refuse .ensures)
+
 pub wherryoar-setup-spec : {M : Type 1} → statement M
 wherryoar-setup-spec =
     tie.close
     (tie.spec
     (λ c κs. search needs)
-    (λ c. let a = c .before .before .before .args in setup-length (now (a .state)) (a .add) (a .n) (c .before .if1 .taken) (c .refuse .ensures))
+    only-48-bytes
     (λ c κs. search needs)
     (λ c. search needs)
     (λ c κs. c .before .before .before .before .before .if1 .left)
