@@ -8,21 +8,21 @@ use mathlib.Core.List.{List, [], _∷_}
 use lib.ListN.{length}
 use Rattle.wire.specs.declared.Edge.{Edge}
 use Rattle.wire.specs.declared.Edge.the-variants.{Still, Start, Stop, Rise, Fall}
-use Rattle.wire.specs.declared.Remembered.{Remembered}
-use Rattle.wire.specs.Wire.{edgeOf, edgeFrom, lineAfter, onWire}
+use Rattle.wire.specs.declared.Line.{Line}
+use Rattle.wire.specs.Wire.{edgeOf, onWire}
 use Rattle.mssp.specs.declared.Live.{Live}
 use Rattle.mssp.specs.declared.Phase.the-variants.{Quiet}
 use Rattle.mssp.specs.Module.{moduleOf, chosen, liveOf}
-use Rattle.sampling.specs.Rules.{edgeStep}
 use Rattle.memory.specs.Memory.{memoryOf}
 use Rattle.firmware.specs.Handler.{stateOf, handlerOf}
 use Rattle.reader.specs.declared.Heard.{Heard}
 use Rattle.reader.specs.declared.Heard.the-variants.{Silence, Started}
 use Rattle.reader.specs.declared.Place.the-variants.{Idle}
 use Rattle.plain.specs.declared.Turn.the-variants.{Off}
-use Rattle.reader.specs.Reader.{readerOf, placeAfter, heardAt}
-use Rattle.plain.specs.Device.{plainOf, hears}
-use Rattle.agreement.specs.Joint.{Item, sample, call, Joint, held, pulled, memory, beforeAfter, ninthAfter, step, run, afresh}
+use Rattle.reader.specs.Reader.{readerOf, heardAt}
+use Rattle.plain.specs.Device.{plainOf}
+use Rattle.agreement.specs.Joint.{Item, sample, call, Joint, joint, held, pulled, memory, step, run, afresh}
+use Rattle.agreement.specs.Simulation.{edged}
 
 -- What the reader hears of an item.
 abbrev pub heardIn : Joint → Item → Heard
@@ -38,45 +38,29 @@ abbrev idle : Bool → Live
 idle p = liveOf false p false false false false true false false false 0
 
 -- The states until then: as set up, but for the wire remembered and P, which a Stop sets.
+abbrev waiting : ℕ → ℕ → List ℕ → Line → Bool → Joint
+waiting n add bytes y p =
+    joint (stateOf (moduleOf (chosen add) (idle p) Quiet y) (handlerOf n 0 false)) bytes (readerOf y Idle)
+    (plainOf (memoryOf bytes 0) Off) (memoryOf bytes 0) true
+
 data Waits (n add : ℕ) (bytes : List ℕ) : Joint → Type 0 where
-  waits :
-      {z : Remembered} {k p : Bool}
-      → Waits n add bytes
-      (record {
-        state =
-            stateOf (moduleOf (chosen add) (idle p) Quiet
-            (record { remembered = z; mark = k })) (handlerOf n 0 false);
-        bytes = bytes;
-        reader = readerOf (record { remembered = z; mark = k }) Idle;
-        device = plainOf (memoryOf bytes 0) Off;
-        before = memoryOf bytes 0;
-        ninth = true;
-      })
+  waits : {y : Line} {p : Bool} → Waits n add bytes (waiting n add bytes y p)
 
 edge-waits :
-    {n add : ℕ} {bytes : List ℕ} (p k : Bool) {scl sda : Bool} (e : Edge) → (heardAt Idle e ≡ Started → ⊥)
-    → Waits n add bytes
-    (record {
-      state =
-          stateOf (moduleOf (chosen add) (edgeStep (chosen add) (idle p) Quiet e .live) (edgeStep (chosen add) (idle p) Quiet e .phase)
-          (lineAfter k e scl sda)) (handlerOf n 0 false);
-      bytes = bytes;
-      reader = readerOf (lineAfter k e scl sda) (placeAfter Idle e);
-      device = hears n add (heardAt Idle e) (plainOf (memoryOf bytes 0) Off);
-      before = beforeAfter (heardAt Idle e) (memoryOf bytes 0) (memoryOf bytes 0);
-      ninth = ninthAfter (heardAt Idle e) true;
-    })
-edge-waits p k Still h = waits
-edge-waits p k Start h = absurd (h refl)
-edge-waits p k Stop h = waits
-edge-waits p k (Rise sda) h = waits
-edge-waits p k Fall h = waits
+    {n add : ℕ} {bytes : List ℕ} (y : Line) (p scl sda : Bool) (e : Edge) → (heardAt Idle e ≡ Started → ⊥)
+    → Waits n add bytes (edged n add e scl sda (waiting n add bytes y p))
+unfolding edged
+edge-waits y p scl sda Still h = waits
+edge-waits y p scl sda Start h = absurd (h refl)
+edge-waits y p scl sda Stop h = waits
+edge-waits y p scl sda (Rise level) h = waits
+edge-waits y p scl sda Fall h = waits
 
 step-waits :
     (n add : ℕ) (bytes : List ℕ) (j : Joint) (item : Item) → (heardIn j item ≡ Started → ⊥) → Waits n add bytes j
     → Waits n add bytes (step n add j item)
-step-waits n add bytes j (sample scl sda) h (waits {z = z} {k = k} {p = p}) =
-    edge-waits p k (edgeFrom k z (onWire false scl) (onWire false sda)) h
+unfolding edged
+step-waits n add bytes j (sample scl sda) h (waits {y = y} {p = p}) = edge-waits y p scl sda (edgeOf y scl sda) h
 step-waits n add bytes j call h waits = waits
 
 run-waits :

@@ -34,6 +34,10 @@ pub record Joint : Type 0 where
   pub before : Memory
   pub ninth : Bool
 
+abbrev pub joint : State → List ℕ → Reader → Plain → Memory → Bool → Joint
+joint state bytes reader device before ninth =
+    record { state = state; bytes = bytes; reader = reader; device = device; before = before; ninth = ninth }
+
 -- The clock is held; SDA is pulled.
 abbrev pub held : Joint → Bool
 held j = sclPulled (j .state .mssp .phase)
@@ -97,13 +101,25 @@ afresh add bytes =
       ninth = true;
     }
 
--- What demand 3 says after an item.
+-- ---- what demand 3 says after an item
+-- Memory and pointer are the plain device's while the clock is not held, those before the last byte while it is.
+abbrev pub SameMemory : Joint → Type 0
+SameMemory j = memory j ≡ cond (held j) (j .before) (j .device .memory)
+
+-- One handler call ends a hold.
+abbrev pub EndedByOneCall : Joint → Type 0
+EndedByOneCall j = held (handlerRuns j) ≡ false
+
+-- SDA is pulled exactly where the plain device owes a low.
+abbrev pub PulledWhereOwed : ℕ → Joint → Type 0
+PulledWhereOwed add j = pulled j ≡ owes add (held j) (sclHigh (j .reader .line .remembered)) (j .reader .place) (j .device .turn)
+
+-- The clock is held only after an acknowledged byte: the last ninth clock was low.
+abbrev pub HeldAfterAcknowledge : Joint → Type 0
+HeldAfterAcknowledge j = held j ≡ true → j .ninth ≡ false
+
 pub record Agrees (add : ℕ) (j : Joint) : Type 0 where
-  -- memory and pointer are the plain device's while the clock is not held, those before the last byte while it is
-  pub memories : memory j ≡ cond (held j) (j .before) (j .device .memory)
-  -- one handler call ends a hold
-  pub once : held (handlerRuns j) ≡ false
-  -- SDA is pulled exactly where the plain device owes a low
-  pub owed : pulled j ≡ owes add (held j) (sclHigh (j .reader .line .remembered)) (j .reader .place) (j .device .turn)
-  -- the clock is held only after an acknowledged byte: the last ninth clock was low
-  pub acknowledged : held j ≡ true → j .ninth ≡ false
+  pub memories : SameMemory j
+  pub once : EndedByOneCall j
+  pub owed : PulledWhereOwed add j
+  pub acknowledged : HeldAfterAcknowledge j

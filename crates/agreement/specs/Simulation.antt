@@ -1,7 +1,7 @@
 -- The simulation behind demand 3: which joint states there are, and that every item keeps to them.
 -- Assumes nothing.
 use Prim.Native.Nat.{ℕ, _+_, _<_}
-use mathlib.Core.Path.{_≡_, refl, sym, subst}
+use mathlib.Core.Path.{_≡_, refl, sym}
 use mathlib.Core.Bool.{Bool, true, false, not}
 use mathlib.Core.List.{List, [], _∷_}
 use native.Mathlib.Nat.{mod-eq-of-lt}
@@ -25,21 +25,22 @@ use Rattle.mssp.specs.declared.Phase.{Phase}
 use Rattle.mssp.specs.declared.Phase.the-variants.{Quiet, Address, Data, Slot, HeldForSending, Sending, MasterAcknowledge}
 use Rattle.mssp.specs.declared.Module.{Module}
 use Rattle.mssp.specs.Module.{moduleOf, chosen, liveOf}
-use Rattle.mssp.specs.Drivers.{sclPulled, sdaPulled}
 use Rattle.sampling.specs.declared.Moved.{Moved}
-use Rattle.sampling.specs.Rules.{edgeStep, addressFallIf, dataFallIf, addressIf, bitSentIf, seenIf}
+use Rattle.sampling.specs.Rules.{_at_, edgeStep, addressFallIf, dataFallIf, addressIf, bitSentIf}
 use Rattle.memory.specs.Memory.{Memory, memoryOf, peeked, laidOut, put}
 use Rattle.firmware.specs.declared.Handler.{Handler}
-use Rattle.firmware.specs.declared.State.{State}
-use Rattle.firmware.specs.Handler.{stateOf, handlerOf, called}
+use Rattle.firmware.specs.Handler.{stateOf, handlerOf}
 use Rattle.reader.specs.declared.Ninth.{Ninth}
 use Rattle.reader.specs.declared.Ninth.the-variants.{Waiting, Got}
+use Rattle.reader.specs.declared.Place.{Place}
 use Rattle.reader.specs.declared.Place.the-variants.{Idle, Within, Ending}
+use Rattle.reader.specs.declared.Heard.{Heard}
+use Rattle.plain.specs.declared.Turn.{Turn}
 use Rattle.plain.specs.declared.Turn.the-variants.{Off, Writing, Reading}
 use Rattle.reader.specs.declared.Reader.{Reader}
 use Rattle.reader.specs.Reader.{readerOf, withinFall, placeAfter, heardAt}
 use Rattle.plain.specs.Device.{Plain, plainOf, own, hears}
-use Rattle.agreement.specs.Joint.{Item, sample, call, Joint, held, pulled, memory, beforeAfter, ninthAfter, step, run, afresh}
+use Rattle.agreement.specs.Joint.{Item, sample, call, Joint, joint, held, pulled, beforeAfter, ninthAfter, bothSee, handlerRuns, step, run, afresh}
 
 -- Which edge a change of the wire can be.
 pub data Move : Remembered → Remembered → Edge → Type 0 where
@@ -71,96 +72,83 @@ flags buf bf da rw ckp sspif ackstat acktim s p = liveOf s p da rw bf false ckp 
 abbrev line : Remembered → Bool → Line
 line seen mark = record { remembered = seen; mark = mark }
 
-abbrev at : ℕ → ℕ → Phase → Live → Remembered → Bool → ℕ → Bool → State
-at n add ph l seen mark pointer due = stateOf (moduleOf (chosen add) l ph (line seen mark)) (handlerOf n pointer due)
+-- Module and reader remember one line; the handler has a pointer, and one is due or not.
+abbrev both : ℕ → ℕ → Line → Phase → Live → ℕ → Bool → List ℕ → Place → Plain → Memory → Bool → Joint
+both n add y ph l pt due m place device before ninth =
+    joint (stateOf (moduleOf (chosen add) l ph y) (handlerOf n pt due)) m (readerOf y place) device before ninth
 
--- The state and the window's bytes, the reader, the device, and the device's memory before the last byte.
-pub data Rel (n add : ℕ) : State → List ℕ → Reader → Plain → Memory → Bool → Type 0 where
+-- The clock free: the device's memory is the handler's. The clock held: the memory before the last byte is.
+abbrev free : ℕ → ℕ → Line → Phase → Live → ℕ → Bool → List ℕ → Place → Turn → Memory → Bool → Joint
+free n add y ph l pt due m place turn before ninth = both n add y ph l pt due m place (plainOf (memoryOf m pt) turn) before ninth
+
+abbrev hold : ℕ → ℕ → Line → Phase → Live → ℕ → Bool → List ℕ → Memory → Turn → Joint
+hold n add y ph l pt due m memory turn = both n add y ph l pt due m (Within false none) (plainOf memory turn) (memoryOf m pt) false
+
+-- The joint states, by the phase of the module and the place of the reader.
+pub data Rel (n add : ℕ) : Joint → Type 0 where
   resting :
       {z : Remembered} {v pt : ℕ} {k da rw i ks kt s p due : Bool} {m : List ℕ} {o : Memory} {q : Bool}
-      → Rel n add (at n add Quiet (flags v false da rw true i ks kt s p) z k pt due) m
-      (readerOf (line z k) Idle) (plainOf (memoryOf m pt) Off) o q
+      → Rel n add (free n add (line z k) Quiet (flags v false da rw true i ks kt s p) pt due m Idle Off o q)
   foreign :
       {l d : Bool} {b : Bits} {v pt : ℕ} {k da rw i ks kt s p due : Bool} {m : List ℕ} {o : Memory} {q : Bool}
-      → Rel n add (at n add Quiet (flags v false da rw true i ks kt s p) (Wire l d) k pt due) m
-      (readerOf (line (Wire l d) k) (Within false b)) (plainOf (memoryOf m pt) Off) o q
+      → Rel n add (free n add (line (Wire l d) k) Quiet (flags v false da rw true i ks kt s p) pt due m (Within false b) Off o q)
   refused :
       {l d : Bool} {x : ℕ} {y : Ninth} {v pt : ℕ} {k da rw i ks kt s p due : Bool} {m : List ℕ} {o : Memory} {q : Bool}
       → own add x ≡ false
-      → Rel n add (at n add Quiet (flags v false da rw true i ks kt s p) (Wire l d) k pt due) m
-      (readerOf (line (Wire l d) k) (Ending true x y)) (plainOf (memoryOf m pt) Off) o q
+      → Rel n add (free n add (line (Wire l d) k) Quiet (flags v false da rw true i ks kt s p) pt due m (Ending true x y) Off o q)
   passing :
       {l d : Bool} {x : ℕ} {y : Ninth} {v pt : ℕ} {k da rw i ks kt s p due : Bool} {m : List ℕ} {o : Memory} {q : Bool}
-      → Rel n add (at n add Quiet (flags v false da rw true i ks kt s p) (Wire l d) k pt due) m
-      (readerOf (line (Wire l d) k) (Ending false x y)) (plainOf (memoryOf m pt) Off) o q
+      → Rel n add (free n add (line (Wire l d) k) Quiet (flags v false da rw true i ks kt s p) pt due m (Ending false x y) Off o q)
   addressing :
       {l d : Bool} {b : Bits} {v pt : ℕ} {k da rw i ks kt s p due : Bool} {m : List ℕ} {o : Memory} {q : Bool}
-      → Rel n add (at n add (Address b) (flags v false da rw true i ks kt s p) (Wire l d) k pt due) m
-      (readerOf (line (Wire l d) k) (Within true b)) (plainOf (memoryOf m pt) Off) o q
+      → Rel n add (free n add (line (Wire l d) k) (Address b) (flags v false da rw true i ks kt s p) pt due m (Within true b) Off o q)
   ours-low :
       {d r : Bool} {v pt : ℕ} {k i ks kt s p due : Bool} {m : List ℕ} {o : Memory} {q : Bool} → own add v ≡ true → bit 0 v ≡ r
-      → Rel n add (at n add (Slot true) (flags v true false r true i ks kt s p) (Wire false d) k pt due) m
-      (readerOf (line (Wire false d) k) (Ending true v Waiting)) (plainOf (memoryOf m pt) Off) o q
+      → Rel n add (free n add (line (Wire false d) k) (Slot true) (flags v true false r true i ks kt s p) pt due m (Ending true v Waiting) Off o q)
   ours-high :
       {r : Bool} {v pt : ℕ} {k i ks kt s p due : Bool} {m : List ℕ} {o : Memory} {q : Bool} → own add v ≡ true → bit 0 v ≡ r
-      → Rel n add (at n add (Slot true) (flags v true false r true i ks kt s p) (Wire true false) k pt due) m
-      (readerOf (line (Wire true false) k) (Ending true v (Got false))) (plainOf (memoryOf m pt) Off) o q
+      → Rel n add (free n add (line (Wire true false) k) (Slot true) (flags v true false r true i ks kt s p) pt due m (Ending true v (Got false)) Off o q)
   byte-low :
       {d : Bool} {v pt : ℕ} {k i ks kt s p due : Bool} {m : List ℕ} {o : Memory} {q : Bool}
-      → Rel n add (at n add (Slot true) (flags v true true false true i ks kt s p) (Wire false d) k pt due) m
-      (readerOf (line (Wire false d) k) (Ending false v Waiting)) (plainOf (memoryOf m pt) (Writing due)) o q
+      → Rel n add (free n add (line (Wire false d) k) (Slot true) (flags v true true false true i ks kt s p) pt due m (Ending false v Waiting) (Writing due) o q)
   byte-high :
       {v pt : ℕ} {k i ks kt s p due : Bool} {m : List ℕ} {o : Memory} {q : Bool}
-      → Rel n add (at n add (Slot true) (flags v true true false true i ks kt s p) (Wire true false) k pt due) m
-      (readerOf (line (Wire true false) k) (Ending false v (Got false))) (plainOf (memoryOf m pt) (Writing due)) o q
+      → Rel n add (free n add (line (Wire true false) k) (Slot true) (flags v true true false true i ks kt s p) pt due m (Ending false v (Got false)) (Writing due) o q)
   held-ours :
       {d : Bool} {v pt : ℕ} {k ks kt s p due : Bool} {m : List ℕ}
-      → Rel n add (at n add (Data none true) (flags v true false false false true ks kt s p) (Wire false d) k pt due) m
-      (readerOf (line (Wire false d) k) (Within false none)) (plainOf (memoryOf m pt) (Writing true)) (memoryOf m pt) false
+      → Rel n add (hold n add (line (Wire false d) k) (Data none true) (flags v true false false false true ks kt s p) pt due m (memoryOf m pt) (Writing true))
   held-byte :
       {d : Bool} {v pt : ℕ} {k ks kt s p due : Bool} {m : List ℕ}
-      → Rel n add (at n add (Data none true) (flags v true true false false true ks kt s p) (Wire false d) k pt due) m
-      (readerOf (line (Wire false d) k) (Within false none)) (plainOf (put n due v (memoryOf m pt)) (Writing false))
-      (memoryOf m pt) false
+      → Rel n add (hold n add (line (Wire false d) k) (Data none true) (flags v true true false false true ks kt s p) pt due m (put n due v (memoryOf m pt)) (Writing false))
   taking :
       {l d : Bool} {b : Bits} {v pt : ℕ} {k da i ks kt s p due : Bool} {m : List ℕ} {o : Memory} {q : Bool}
-      → Rel n add (at n add (Data b false) (flags v false da false true i ks kt s p) (Wire l d) k pt due) m
-      (readerOf (line (Wire l d) k) (Within false b)) (plainOf (memoryOf m pt) (Writing due)) o q
+      → Rel n add (free n add (line (Wire l d) k) (Data b false) (flags v false da false true i ks kt s p) pt due m (Within false b) (Writing due) o q)
   held-load :
       {d : Bool} {v pt : ℕ} {k bf da ks kt s p due : Bool} {m : List ℕ}
-      → Rel n add (at n add HeldForSending (flags v bf da true false true ks kt s p) (Wire false d) k pt due) m
-      (readerOf (line (Wire false d) k) (Within false none))
-      (plainOf (laidOut n (memoryOf m pt)) (Reading (peeked (memoryOf m pt)))) (memoryOf m pt) false
+      → Rel n add (hold n add (line (Wire false d) k) HeldForSending (flags v bf da true false true ks kt s p) pt due m (laidOut n (memoryOf m pt)) (Reading (peeked (memoryOf m pt))))
   sent-low :
       {d : Bool} {b : Bits} {x v pt : ℕ} {k da i ks kt s p due : Bool} {m : List ℕ} {o : Memory} {q : Bool} → b .count < 8
-      → Rel n add (at n add (Sending x (b .count)) (flags v true da true true i ks kt s p) (Wire false d) k pt due) m
-      (readerOf (line (Wire false d) k) (Within false b)) (plainOf (memoryOf m pt) (Reading x)) o q
+      → Rel n add (free n add (line (Wire false d) k) (Sending x (b .count)) (flags v true da true true i ks kt s p) pt due m (Within false b) (Reading x) o q)
   sent-high :
       {d : Bool} (b : Bits) (y : Bool) {x v pt : ℕ} {k da i ks kt s p due : Bool} {m : List ℕ} {o : Memory} {q : Bool} → b .count < 8
-      → Rel n add (at n add (Sending x (b .count)) (flags v true da true true i ks kt s p) (Wire true d) k pt due) m
-      (readerOf (line (Wire true d) k) (Within false (pushed b y))) (plainOf (memoryOf m pt) (Reading x)) o q
+      → Rel n add (free n add (line (Wire true d) k) (Sending x (b .count)) (flags v true da true true i ks kt s p) pt due m (Within false (pushed b y)) (Reading x) o q)
   asked-low :
       {d : Bool} {x v u pt : ℕ} {k i ks kt s p due : Bool} {m : List ℕ} {o : Memory} {q : Bool}
-      → Rel n add (at n add MasterAcknowledge (flags v false true true true i ks kt s p) (Wire false d) k pt due) m
-      (readerOf (line (Wire false d) k) (Ending false u Waiting)) (plainOf (memoryOf m pt) (Reading x)) o q
+      → Rel n add (free n add (line (Wire false d) k) MasterAcknowledge (flags v false true true true i ks kt s p) pt due m (Ending false u Waiting) (Reading x) o q)
   asked-high :
       {d : Bool} {x v u pt : ℕ} {k i ks kt s p due : Bool} {m : List ℕ} {o : Memory} {q : Bool}
-      → Rel n add (at n add MasterAcknowledge (flags v false true true true i ks kt s p) (Wire true d) k pt due) m
-      (readerOf (line (Wire true d) k) (Ending false u (Got ks))) (plainOf (memoryOf m pt) (Reading x)) o q
+      → Rel n add (free n add (line (Wire true d) k) MasterAcknowledge (flags v false true true true i ks kt s p) pt due m (Ending false u (Got ks)) (Reading x) o q)
 
--- The joint state after an edge e, and that it is one of these.
-abbrev edged : Edge → Bool → Bool → Module → Module
-edged e scl sda m =
-    let n : Moved = edgeStep (m .config) (m .live) (m .phase) e in
-    moduleOf (m .config) (n .live) (n .phase) (lineAfter (m .line .mark) e scl sda)
-
-after : ℕ → ℕ → Edge → Bool → Bool → State → List ℕ → Reader → Plain → Memory → Bool → Type 0
-after n add e scl sda st m r d o q =
-    Rel n add (stateOf (edged e scl sda (st .mssp)) (st .handler)) m
-    (readerOf (lineAfter (st .mssp .line .mark) e scl sda) (placeAfter (r .place) e))
-    (hears n add (heardAt (r .place) e) d)
-    (beforeAfter (heardAt (r .place) e) (d .memory) o)
-    (ninthAfter (heardAt (r .place) e) q)
+-- The joint state after an edge e.
+unfoldable pub edged : ℕ → ℕ → Edge → Bool → Bool → Joint → Joint
+edged n add e scl sda j =
+    let m : Module = j .state .mssp in
+    let y : Line = lineAfter (m .line .mark) e scl sda in
+    let moved : Moved = edgeStep (m .config) (m .live) (m .phase) e in
+    let heard : Heard = heardAt (j .reader .place) e in
+    joint (stateOf (moduleOf (m .config) (moved .live) (moved .phase) y) (j .state .handler)) (j .bytes)
+    (readerOf y (placeAfter (j .reader .place) e)) (hears n add heard (j .device))
+    (beforeAfter heard (j .device .memory) (j .before)) (ninthAfter heard (j .ninth))
 
 -- With MSK FF and no general call an address matches where bits 7 to 1 are ADD's.
 pub matches-own : (add byte : ℕ) → matching add 255 false byte ≡ own add byte
@@ -180,54 +168,51 @@ whole-pushed : (b : Bits) (y : Bool) → b .count < 8 → whole (pushed b y) ≡
 whole-pushed b y h = rw (mod-eq-of-lt h) (eighth (b .count) h)
 
 -- ---- the falls that turn on a test, t or u
+-- After a fall: what moved, and both with SCL low and no mark.
+abbrev fell : Config → Moved → Handler → List ℕ → Place → Plain → Memory → Bool → Bool → Joint
+fell c moved h m place dd o q d =
+    let y : Line = line (Wire false d) false in
+    joint (stateOf (moduleOf c (moved .live) (moved .phase) y) h) m (readerOf y place) dd o q
+
 foreign-fall :
-    {n add : ℕ} {c : Config} {l : Live} {z : Line} {h : Handler} {m : List ℕ} {b : Bits} {y : Line} {dd : Plain}
-    {o : Memory} {q : Bool} {d : Bool} (t : Bool)
-    → Rel n add (stateOf (moduleOf c l Quiet z) h) m (readerOf y (Within false b)) dd o q
-    → Rel n add (stateOf (moduleOf c l Quiet (line (Wire false d) false)) h) m
-    (readerOf (line (Wire false d) false) (withinFall t false b)) dd o q
+    {n add : ℕ} {c : Config} {l : Live} {z y : Line} {h : Handler} {m : List ℕ} {b : Bits} {dd : Plain} {o : Memory}
+    {q d : Bool} (t : Bool)
+    → Rel n add (joint (stateOf (moduleOf c l Quiet z) h) m (readerOf y (Within false b)) dd o q)
+    → Rel n add (fell c (l at Quiet) h m (withinFall t false b) dd o q d)
 foreign-fall true foreign = passing
 foreign-fall false foreign = foreign
 
 ours-fall :
-    {n add : ℕ} {c : Config} {l : Live} {z : Line} {h : Handler} {m : List ℕ} {b : Bits} {r : Reader} {dd : Plain}
-    {o : Memory} {q : Bool} {d : Bool} (u : Bool) → own add (b .value) ≡ u
-    → Rel n add (stateOf (moduleOf c l (Address b) z) h) m r dd o q
-    → Rel n add
-    (stateOf (moduleOf c (addressIf u c l (b .value) .live) (addressIf u c l (b .value) .phase) (line (Wire false d) false)) h)
-    m (readerOf (line (Wire false d) false) (Ending true (b .value) Waiting)) dd o q
+    {n add : ℕ} {c : Config} {l : Live} {z : Line} {h : Handler} {m : List ℕ} {b : Bits} {r : Reader} {dd : Plain} {o : Memory}
+    {q d : Bool} (u : Bool) → own add (b .value) ≡ u
+    → Rel n add (joint (stateOf (moduleOf c l (Address b) z) h) m r dd o q)
+    → Rel n add (fell c (addressIf u c l (b .value)) h m (Ending true (b .value) Waiting) dd o q d)
 ours-fall true e addressing = ours-low e refl
 ours-fall false e addressing = refused e
 
 address-fall :
-    {n add : ℕ} {c : Config} {l : Live} {z : Line} {h : Handler} {m : List ℕ} {b : Bits} {r : Reader} {dd : Plain}
-    {o : Memory} {q : Bool} {d : Bool} (t : Bool)
-    → Rel n add (stateOf (moduleOf c l (Address b) z) h) m r dd o q
-    → Rel n add
-    (stateOf (moduleOf c (addressFallIf t c l b .live) (addressFallIf t c l b .phase) (line (Wire false d) false)) h)
-    m (readerOf (line (Wire false d) false) (withinFall t true b)) dd o q
+    {n add : ℕ} {c : Config} {l : Live} {z : Line} {h : Handler} {m : List ℕ} {b : Bits} {r : Reader} {dd : Plain} {o : Memory}
+    {q d : Bool} (t : Bool)
+    → Rel n add (joint (stateOf (moduleOf c l (Address b) z) h) m r dd o q)
+    → Rel n add (fell c (addressFallIf t c l b) h m (withinFall t true b) dd o q d)
 address-fall {add = add} true (addressing {l = l} {d = before} {b = b} {k = k}) =
     ours-fall {b = b} (matching add 255 false (b .value)) (sym (matches-own add (b .value)))
     (addressing {l = l} {d = before} {b = b} {k = k})
 address-fall false addressing = addressing
 
 data-fall :
-    {n add : ℕ} {c : Config} {l : Live} {z : Line} {h : Handler} {m : List ℕ} {b : Bits} {r : Reader} {dd : Plain}
-    {o : Memory} {q : Bool} {d : Bool} (t : Bool)
-    → Rel n add (stateOf (moduleOf c l (Data b false) z) h) m r dd o q
-    → Rel n add
-    (stateOf (moduleOf c (dataFallIf t c l b false .live) (dataFallIf t c l b false .phase) (line (Wire false d) false)) h)
-    m (readerOf (line (Wire false d) false) (withinFall t false b)) dd o q
+    {n add : ℕ} {c : Config} {l : Live} {z : Line} {h : Handler} {m : List ℕ} {b : Bits} {r : Reader} {dd : Plain} {o : Memory}
+    {q d : Bool} (t : Bool)
+    → Rel n add (joint (stateOf (moduleOf c l (Data b false) z) h) m r dd o q)
+    → Rel n add (fell c (dataFallIf t c l b false) h m (withinFall t false b) dd o q d)
 data-fall true taking = byte-low
 data-fall false taking = taking
 
 sent-fall :
     {n add : ℕ} {c : Config} {l : Live} {x place : ℕ} {before k : Bool} {h : Handler} {m : List ℕ} {b : Bits} {y : Line}
-    {dd : Plain} {o : Memory} {q : Bool} {d : Bool} (t : Bool) → ltb place 7 ≡ t
-    → Rel n add (stateOf (moduleOf c l (Sending x place) (line (Wire true before) k)) h) m (readerOf y (Within false b)) dd o q
-    → Rel n add
-    (stateOf (moduleOf c (bitSentIf t l x place .live) (bitSentIf t l x place .phase) (line (Wire false d) false)) h)
-    m (readerOf (line (Wire false d) false) (withinFall (not t) false b)) dd o q
+    {dd : Plain} {o : Memory} {q d : Bool} (t : Bool) → ltb place 7 ≡ t
+    → Rel n add (joint (stateOf (moduleOf c l (Sending x place) (line (Wire true before) k)) h) m (readerOf y (Within false b)) dd o q)
+    → Rel n add (fell c (bitSentIf t l x place) h m (withinFall (not t) false b) dd o q d)
 sent-fall true e (sent-high b y h) =
     rw (← counted b y h) (sent-low {b = pushed b y} (rw (counted b y h) (omega (arith, ltb-true (b .count) 7 e))))
 sent-fall false e (sent-high b y h) = asked-low
@@ -236,10 +221,10 @@ sent-fall false e (sent-high b y h) = asked-low
 sends :
     {n add x place : ℕ} {c : Config} {lv : Live} {ln : Line} {h : Handler} {m : List ℕ} {r : Reader} {dd : Plain}
     {o : Memory} {q : Bool} {l d : Bool} {e : Edge}
-    → Rel n add (stateOf (moduleOf c lv (Sending x place) ln) h) m r dd o q
+    → Rel n add (joint (stateOf (moduleOf c lv (Sending x place) ln) h) m r dd o q)
     → Move (ln .remembered) (Wire l d) e
-    → after n add e l d (stateOf (moduleOf c lv (Sending x place) ln) h) m r dd o q
-unfolding after
+    → Rel n add (edged n add e l d (joint (stateOf (moduleOf c lv (Sending x place) ln) h) m r dd o q))
+unfolding edged
 sends (sent-low h) stays = sent-low h
 sends (sent-low {b = b} h) (rises {sda = y}) = sent-high b y h
 sends (sent-high b y h) stays = sent-high b y h
@@ -250,11 +235,10 @@ sends (sent-high b y h) stops = resting
 
 -- Every level keeps to the states above.
 looks :
-    {n add : ℕ} {st : State} {m : List ℕ} {r : Reader} {dd : Plain} {o : Memory} {q : Bool} {e : Edge} (l d : Bool)
-    → Rel n add st m r dd o q
-    → Move (st .mssp .line .remembered) (Wire (onWire (sclPulled (st .mssp .phase)) l) (onWire (sdaPulled (st .mssp .phase)) d)) e
-    → after n add e (onWire (sclPulled (st .mssp .phase)) l) (onWire (sdaPulled (st .mssp .phase)) d) st m r dd o q
-unfolding after
+    {n add : ℕ} {j : Joint} {e : Edge} (l d : Bool) → Rel n add j
+    → Move (j .state .mssp .line .remembered) (Wire (onWire (held j) l) (onWire (pulled j) d)) e
+    → Rel n add (edged n add e (onWire (held j) l) (onWire (pulled j) d) j)
+unfolding edged
 looks l d resting first = resting
 looks l d resting stays = resting
 looks l d resting rises = resting
@@ -311,96 +295,60 @@ looks l d asked-high starts = addressing
 looks l d asked-high stops = resting
 
 -- A handler call: nothing but SSPIF where the clock is not held; in a hold what the device has done already.
-calls :
-    {n add : ℕ} {st : State} {m : List ℕ} {r : Reader} {dd : Plain} {o : Memory} {q : Bool}
-    → Rel n add st m r dd o q → Rel n add (called st m .state) (called st m .bytes) r dd o q
-calls (resting {i = true}) = resting
-calls (resting {i = false}) = resting
-calls (foreign {i = true}) = foreign
-calls (foreign {i = false}) = foreign
-calls (refused {i = true} e) = refused e
-calls (refused {i = false} e) = refused e
-calls (passing {i = true}) = passing
-calls (passing {i = false}) = passing
-calls (addressing {i = true}) = addressing
-calls (addressing {i = false}) = addressing
-calls (ours-low {i = true} e g) = ours-low e g
-calls (ours-low {i = false} e g) = ours-low e g
-calls (ours-high {i = true} e g) = ours-high e g
-calls (ours-high {i = false} e g) = ours-high e g
-calls (byte-low {i = true}) = byte-low
-calls (byte-low {i = false}) = byte-low
-calls (byte-high {i = true}) = byte-high
-calls (byte-high {i = false}) = byte-high
+calls : {n add : ℕ} {j : Joint} → Rel n add j → Rel n add (handlerRuns j)
+calls (resting {i = i}) = elim i [ true ↦ resting | false ↦ resting ]
+calls (foreign {i = i}) = elim i [ true ↦ foreign | false ↦ foreign ]
+calls (refused {i = i} e) = elim i [ true ↦ refused e | false ↦ refused e ]
+calls (passing {i = i}) = elim i [ true ↦ passing | false ↦ passing ]
+calls (addressing {i = i}) = elim i [ true ↦ addressing | false ↦ addressing ]
+calls (ours-low {i = i} e g) = elim i [ true ↦ ours-low e g | false ↦ ours-low e g ]
+calls (ours-high {i = i} e g) = elim i [ true ↦ ours-high e g | false ↦ ours-high e g ]
+calls (byte-low {i = i}) = elim i [ true ↦ byte-low | false ↦ byte-low ]
+calls (byte-high {i = i}) = elim i [ true ↦ byte-high | false ↦ byte-high ]
 calls held-ours = taking
-calls (held-byte {due = true}) = taking
-calls (held-byte {due = false}) = taking
-calls (taking {i = true}) = taking
-calls (taking {i = false}) = taking
-calls (held-load {da = true}) = sent-low {b = none} (lit< tt)
-calls (held-load {da = false}) = sent-low {b = none} (lit< tt)
-calls (sent-low {i = true} h) = sent-low h
-calls (sent-low {i = false} h) = sent-low h
-calls (sent-high b y {i = true} h) = sent-high b y h
-calls (sent-high b y {i = false} h) = sent-high b y h
-calls (asked-low {i = true}) = asked-low
-calls (asked-low {i = false}) = asked-low
-calls (asked-high {i = true}) = asked-high
-calls (asked-high {i = false}) = asked-high
+calls (held-byte {due = due}) = elim due [ true ↦ taking | false ↦ taking ]
+calls (taking {i = i}) = elim i [ true ↦ taking | false ↦ taking ]
+calls (held-load {da = da}) = elim da [ true ↦ sent-low {b = none} (lit< tt) | false ↦ sent-low {b = none} (lit< tt) ]
+calls (sent-low {i = i} h) = elim i [ true ↦ sent-low h | false ↦ sent-low h ]
+calls (sent-high b y {i = i} h) = elim i [ true ↦ sent-high b y h | false ↦ sent-high b y h ]
+calls (asked-low {i = i}) = elim i [ true ↦ asked-low | false ↦ asked-low ]
+calls (asked-high {i = i}) = elim i [ true ↦ asked-high | false ↦ asked-high ]
 
--- The module runs, and both remember one line.
+-- The module runs, and both remember one line: they see one edge.
 running :
-    {n add : ℕ} {st : State} {m : List ℕ} {r : Reader} {dd : Plain} {o : Memory} {q : Bool}
-    → Rel n add st m r dd o q → (true ≡ st .mssp .config .sspen) × (st .mssp .line ≡ r .line)
-running resting = (refl, refl)
-running foreign = (refl, refl)
-running (refused e) = (refl, refl)
-running passing = (refl, refl)
-running addressing = (refl, refl)
-running (ours-low e g) = (refl, refl)
-running (ours-high e g) = (refl, refl)
-running byte-low = (refl, refl)
-running byte-high = (refl, refl)
-running held-ours = (refl, refl)
-running held-byte = (refl, refl)
-running taking = (refl, refl)
-running held-load = (refl, refl)
-running (sent-low h) = (refl, refl)
-running (sent-high b y h) = (refl, refl)
-running asked-low = (refl, refl)
-running asked-high = (refl, refl)
+    {n add : ℕ} {j : Joint} (scl sda : Bool) → Rel n add j
+    → edged n add (edgeOf (j .state .mssp .line) scl sda) scl sda j ≡ bothSee n add scl sda j
+unfolding edged
+running scl sda resting = refl
+running scl sda foreign = refl
+running scl sda (refused e) = refl
+running scl sda passing = refl
+running scl sda addressing = refl
+running scl sda (ours-low e g) = refl
+running scl sda (ours-high e g) = refl
+running scl sda byte-low = refl
+running scl sda byte-high = refl
+running scl sda held-ours = refl
+running scl sda held-byte = refl
+running scl sda taking = refl
+running scl sda held-load = refl
+running scl sda (sent-low h) = refl
+running scl sda (sent-high b y h) = refl
+running scl sda asked-low = refl
+running scl sda asked-high = refl
 
 -- ---- the invariant of the joint run
-abbrev pub Related : ℕ → ℕ → Joint → Type 0
-Related n add j = Rel n add (j .state) (j .bytes) (j .reader) (j .device) (j .before) (j .ninth)
-
--- A level as both see it, by whether the module runs and by the reader's line.
-abbrev seenBy : ℕ → ℕ → Bool → Line → Bool → Bool → Joint → Type 0
-seenBy n add on y scl sda j =
-    Rel n add (stateOf (seenIf on (j .state .mssp) scl sda) (j .state .handler)) (j .bytes)
-    (readerOf (lineAfter (y .mark) (edgeOf y scl sda) scl sda) (placeAfter (j .reader .place) (edgeOf y scl sda)))
-    (hears n add (heardAt (j .reader .place) (edgeOf y scl sda)) (j .device))
-    (beforeAfter (heardAt (j .reader .place) (edgeOf y scl sda)) (j .device .memory) (j .before))
-    (ninthAfter (heardAt (j .reader .place) (edgeOf y scl sda)) (j .ninth))
-
-sampling-kept : (n add : ℕ) (l d : Bool) (j : Joint) → Related n add j → Related n add (step n add j (sample l d))
-unfolding after
-sampling-kept n add l d j h =
+pub step-kept : (n add : ℕ) (j : Joint) (item : Item) → Rel n add j → Rel n add (step n add j item)
+step-kept n add j (sample l d) h =
+    let y : Line = j .state .mssp .line in
     let scl : Bool = onWire (held j) l in
     let sda : Bool = onWire (pulled j) d in
-    let k = running h in
-    let a : seenBy n add true (j .state .mssp .line) scl sda j =
-    looks l d h (move (j .state .mssp .line .mark) (j .state .mssp .line .remembered) scl sda) in
-    let b = subst (λ (on : Bool). seenBy n add on (j .state .mssp .line) scl sda j) (k .0) a in
-    subst (λ (y : Line). seenBy n add (j .state .mssp .config .sspen) y scl sda j) (k .1) b
-
-pub step-kept : (n add : ℕ) (j : Joint) (item : Item) → Related n add j → Related n add (step n add j item)
-step-kept n add j (sample l d) h = sampling-kept n add l d j h
+    rw (running scl sda h) at (looks l d h (move (y .mark) (y .remembered) scl sda))
 step-kept n add j call h = calls h
 
-pub run-kept : (n add : ℕ) (j : Joint) (items : List Item) → Related n add j → Related n add (run n add j items)
+pub run-kept : (n add : ℕ) (j : Joint) (items : List Item) → Rel n add j → Rel n add (run n add j items)
 run-kept n add j [] h = h
 run-kept n add j (item ∷ items) h = run-kept n add (step n add j item) items (step-kept n add j item h)
 
-pub begins : (add : ℕ) (bytes : List ℕ) → Related (length bytes) add (afresh add bytes)
+pub begins : (add : ℕ) (bytes : List ℕ) → Rel (length bytes) add (afresh add bytes)
 begins add bytes = resting

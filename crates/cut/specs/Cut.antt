@@ -5,7 +5,6 @@ use Prim.Native.Nat.{ℕ}
 use mathlib.Core.Path.{_≡_, refl, sym, ap, _∙_}
 use mathlib.Core.Bool.{Bool, true, false}
 use mathlib.Core.List.{List, [], _∷_, _++_}
-use native.Mathlib.Omega.{arith}
 use Rattle.wire.specs.declared.Line.{Line}
 use Rattle.wire.specs.declared.Remembered.{Remembered}
 use Rattle.wire.specs.declared.Remembered.the-variants.{Nothing, Wire}
@@ -15,7 +14,7 @@ use Rattle.reader.specs.declared.Ninth.{Ninth}
 use Rattle.reader.specs.declared.Place.{Place}
 use Rattle.reader.specs.declared.Place.the-variants.{Idle, Within, Ending}
 use Rattle.reader.specs.declared.Heard.{Heard}
-use Rattle.reader.specs.declared.Heard.the-variants.{Silence, Started, Stopped}
+use Rattle.reader.specs.declared.Heard.the-variants.{Started}
 use Rattle.plain.specs.declared.Turn.{Turn}
 use Rattle.reader.specs.declared.Reader.{Reader}
 use Rattle.reader.specs.Reader.{readerOf, heardAt, readerAfter, readerAfresh}
@@ -30,6 +29,10 @@ line seen mark = record { remembered = seen; mark = mark }
 abbrev pub heardOf : Reader → Level → Heard
 heardOf r (level scl sda) = heardAt (r .place) (edgeOf (r .line) scl sda)
 
+-- The reader hears a Start.
+abbrev pub StartAt : Reader → Level → Type 0
+StartAt r w = heardOf r w ≡ Started
+
 -- A marked reader has just begun a message, and SCL is still high.
 data Sound : Reader → Type 0 where
   unmarked : {z : Remembered} {p : Place} → Sound (readerOf (line z false) p)
@@ -39,12 +42,6 @@ data Sound : Reader → Type 0 where
 data Behind : Reader → Reader → Type 0 where
   new : {r : Reader} → Sound r → Behind (readerOf (line Nothing false) Idle) r
   idle : {z : Remembered} {k : Bool} {p : Place} → Sound (readerOf (line z k) p) → Behind (readerOf (line z false) Idle) (readerOf (line z k) p)
-
-never {ℓ} : {P : Type ℓ} → Silence ≡ Started → P
-never e = absurd (let z : _≡_ {A = ℕ} 0 1 = cc in omega arith)
-
-never-stop {ℓ} : {P : Type ℓ} → Stopped ≡ Started → P
-never-stop e = absurd (let z : _≡_ {A = ℕ} 0 1 = cc in omega arith)
 
 -- ---- every level keeps a reader sound
 sound-kept : {r : Reader} (scl sda : Bool) → Sound r → Sound (readerAfter r scl sda)
@@ -66,7 +63,7 @@ sound-all (level scl sda ∷ ws) s = sound-all ws (sound-kept scl sda s)
 
 -- ---- a level that is no Start to the later reader keeps it behind
 behind-kept :
-    {q r : Reader} (scl sda : Bool) → Behind q r → (heardOf q (level scl sda) ≡ Started → ⊥)
+    {q r : Reader} (scl sda : Bool) → Behind q r → (StartAt q (level scl sda) → ⊥)
     → Behind (readerAfter q scl sda) (readerAfter r scl sda)
 behind-kept false sda (new s) h = idle (sound-kept false sda s)
 behind-kept true sda (new s) h = idle (sound-kept true sda s)
@@ -82,26 +79,26 @@ behind-kept true false (idle {z = Wire true false} s) h = idle (sound-kept true 
 
 -- ---- at the first Start that the later reader hears the two meet
 behind-meets :
-    {q r : Reader} (scl sda : Bool) → Behind q r → heardOf q (level scl sda) ≡ Started
+    {q r : Reader} (scl sda : Bool) → Behind q r → StartAt q (level scl sda)
     → readerAfter q scl sda ≡ readerAfter r scl sda
-behind-meets scl sda (new s) h = never h
-behind-meets scl sda (idle {z = Nothing} s) h = never h
-behind-meets false sda (idle {z = Wire false before} s) h = never h
-behind-meets true sda (idle {z = Wire false before} s) h = never h
-behind-meets false sda (idle {z = Wire true before} s) h = never h
-behind-meets true true (idle {z = Wire true true} s) h = never h
+behind-meets scl sda (new s) h = cc
+behind-meets scl sda (idle {z = Nothing} s) h = cc
+behind-meets false sda (idle {z = Wire false before} s) h = cc
+behind-meets true sda (idle {z = Wire false before} s) h = cc
+behind-meets false sda (idle {z = Wire true before} s) h = cc
+behind-meets true true (idle {z = Wire true true} s) h = cc
 behind-meets true false (idle {z = Wire true true} unmarked) h = refl
 behind-meets true false (idle {z = Wire true true} marked) h = refl
-behind-meets true true (idle {z = Wire true false} s) h = never-stop h
-behind-meets true false (idle {z = Wire true false} s) h = never h
+behind-meets true true (idle {z = Wire true false} s) h = cc
+behind-meets true false (idle {z = Wire true false} s) h = cc
 
 -- No Start is heard in these levels.
 abbrev pub Unheard : Reader → List Level → Type 0
 Unheard r [] = Unit {0}
-Unheard r (w ∷ ws) = (heardOf r w ≡ Started → ⊥) × Unheard (readOne r w) ws
+Unheard r (w ∷ ws) = (StartAt r w → ⊥) × Unheard (readOne r w) ws
 
 meets :
-    (xs : List Level) (w : Level) {q r : Reader} → Behind q r → Unheard q xs → heardOf (readAll q xs) w ≡ Started
+    (xs : List Level) (w : Level) {q r : Reader} → Behind q r → Unheard q xs → StartAt (readAll q xs) w
     → readOne (readAll q xs) w ≡ readOne (readAll r xs) w
 meets [] (level scl sda) b u h = behind-meets scl sda b h
 meets (level scl sda ∷ xs) w b u h = meets xs w (behind-kept scl sda b (u .0)) (u .1) h
@@ -109,7 +106,7 @@ meets (level scl sda ∷ xs) w b u h = meets xs w (behind-kept scl sda b (u .0))
 -- THE ANSWER: earlier is what the cut takes away; xs and w, up to the first Start heard in what is left; ys, all that follows.
 pub cut-anywhere :
     (earlier xs : List Level) (w : Level) (ys : List Level) → Unheard readerAfresh xs
-    → heardOf (readAll readerAfresh xs) w ≡ Started
+    → StartAt (readAll readerAfresh xs) w
     → readAll readerAfresh (xs ++ (w ∷ ys)) ≡ readAll readerAfresh (earlier ++ (xs ++ (w ∷ ys)))
 cut-anywhere earlier xs w ys u h =
     let whole : Reader = readAll readerAfresh earlier in
@@ -121,7 +118,7 @@ cut-anywhere earlier xs w ys u h =
 -- So whatever comes next is heard alike from both left edges, an address among it ..
 pub heard-alike :
     (earlier xs : List Level) (w : Level) (ys : List Level) (next : Level) → Unheard readerAfresh xs
-    → heardOf (readAll readerAfresh xs) w ≡ Started
+    → StartAt (readAll readerAfresh xs) w
     → heardOf (readAll readerAfresh (xs ++ (w ∷ ys))) next ≡ heardOf (readAll readerAfresh (earlier ++ (xs ++ (w ∷ ys)))) next
 heard-alike earlier xs w ys next u h = ap (λ (r : Reader). heardOf r next) (cut-anywhere earlier xs w ys u h)
 

@@ -1,7 +1,7 @@
 -- An accepted call through the door leaves a state's image, and a refused one the image that was there: a host that keeps to
 -- the door never loses its state.
 -- Assumes nothing.
-use Prim.Native.Nat.{ℕ, zero, suc, _<_}
+use Prim.Native.Nat.{ℕ, zero, suc}
 use mathlib.Core.Path.{_≡_, refl}
 use mathlib.Core.Bool.{Bool, true, false, _&&_}
 use mathlib.Core.List.{List}
@@ -14,7 +14,6 @@ use Rattle.refusals.specs.declared.Refusal.{Refusal}
 use Rattle.refusals.specs.declared.Refusal.the-variants.{NoState, NoRegister, ReservedBit, NoMode, NoWindow, NoItem, PastRecord}
 use Rattle.refusals.specs.declared.Verdict.{Verdict}
 use Rattle.refusals.specs.declared.Verdict.the-variants.{Done, Refused}
-use Rattle.refusals.specs.Numbers.{numberOf}
 use Rattle.wire.specs.Wire.{sclOf, sdaOf}
 use Rattle.mssp.specs.declared.Module.{Module}
 use Rattle.mssp.specs.Valid.{valid, Valid as ValidModule}
@@ -36,7 +35,7 @@ use Rattle.image.specs.declared.Decoded.the-variants.{Valid}
 use Rattle.image.specs.HandlerPart.{handlerValid}
 use Rattle.image.specs.Image.{imageLength, validState, encodeOf, decodeOf}
 use Rattle.image.specs.Theorems.{decode-encode, decode-valid}
-use Rattle.door.specs.Outcome.{Outcome, lent, settled, noState, byState}
+use Rattle.door.specs.Outcome.{Outcome, outcome, answerOf, refused, lent, settled, noState, byState}
 use Rattle.door.specs.Door.{setupIf, doorSetup, accessed, doorRead, doorWrite, levelVerdict, doorSample, called, doorCall, ran, doorRun}
 use Rattle.door.specs.Theorems.{Keeps, by-state, read-keeps, write-keeps, sample-keeps, call-keeps, run-keeps}
 
@@ -77,29 +76,29 @@ abbrev pub Leaves : Outcome → Type 0
 Leaves o = o .answer .refusal ≡ 0 → Image (o .state)
 
 -- No cause has the number 0.
-some-number : (why : Refusal) → numberOf why ≡ 0 → ⊥
-some-number NoState e = omega arith
-some-number NoRegister e = omega arith
-some-number ReservedBit e = omega arith
-some-number NoMode e = omega arith
-some-number NoWindow e = omega arith
-some-number NoItem e = omega arith
-some-number PastRecord e = omega arith
+refused-leaves : (why : Refusal) (item : ℕ) (bytes : List ℕ) → Leaves (outcome (refused why item) bytes)
+refused-leaves NoState item bytes e = absurd (omega arith)
+refused-leaves NoRegister item bytes e = absurd (omega arith)
+refused-leaves ReservedBit item bytes e = absurd (omega arith)
+refused-leaves NoMode item bytes e = absurd (omega arith)
+refused-leaves NoWindow item bytes e = absurd (omega arith)
+refused-leaves NoItem item bytes e = absurd (omega arith)
+refused-leaves PastRecord item bytes e = absurd (omega arith)
 
 none-leaves : (bytes : List ℕ) → Leaves (noState bytes)
-none-leaves bytes e = absurd (some-number NoState e)
+none-leaves bytes = refused-leaves NoState 0 bytes
 
 settled-leaves :
     (v : Verdict) (item : ℕ) (next : State) (bytes : List ℕ) → ValidState next → Leaves (settled v item next bytes)
-settled-leaves (Done value) item next bytes good e = image-of next good
-settled-leaves (Refused why) item next bytes good e = absurd (some-number why e)
+settled-leaves (Done value) item next bytes good = λ e. image-of next good
+settled-leaves (Refused why) item next bytes good = refused-leaves why item bytes
 
 setup-if :
     (fits : Bool) (made : Made) (bytes : List ℕ) → ((s : State) → made ≡ Ready s → ValidState s)
     → Leaves (setupIf fits made bytes)
-setup-if false made bytes good e = none-leaves bytes e
-setup-if true (NotMade why) bytes good e = absurd (some-number why e)
-setup-if true (Ready s) bytes good e = image-of s (good s refl)
+setup-if false made bytes good = none-leaves bytes
+setup-if true (NotMade why) bytes good = refused-leaves why 0 bytes
+setup-if true (Ready s) bytes good = λ e. image-of s (good s refl)
 
 call-if :
     (s : State) (buffer : List ℕ) (start n : ℕ) (fits : Bool) → ValidState s
@@ -160,12 +159,13 @@ module _ (bytes : List ℕ) where
 
 -- ---- an image stays an image, whatever is called
 stays-if :
-    (refusal : ℕ) {bytes left : List ℕ} → (0 < refusal → left ≡ bytes) → (refusal ≡ 0 → Image left) → Image bytes → Image left
-stays-if zero keeps leaves image = leaves refl
-stays-if (suc refusal) keeps leaves image = rw (keeps (omega arith)) image
+    (refusal value item : ℕ) {bytes left : List ℕ} → Keeps bytes (outcome (answerOf refusal value item) left)
+    → Leaves (outcome (answerOf refusal value item) left) → Image bytes → Image left
+stays-if zero value item keeps leaves image = leaves (omega arith)
+stays-if (suc refusal) value item keeps leaves image = rw (keeps (omega arith)) image
 
 stays : {bytes : List ℕ} (o : Outcome) → Keeps bytes o → Leaves o → Image bytes → Image (o .state)
-stays o keeps leaves image = stays-if (o .answer .refusal) keeps leaves image
+stays o keeps leaves image = stays-if (o .answer .refusal) (o .answer .value) (o .answer .item) keeps leaves image
 
 module _ (bytes : List ℕ) (image : Image bytes) where
   pub read-stays : (number : ℕ) → Image (doorRead bytes number .state)

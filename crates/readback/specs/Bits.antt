@@ -11,6 +11,10 @@ use Rattle.truth.specs.Tests.{and-left, and-right}
 use Rattle.wire.specs.Byte.{bit}
 use Rattle.register_bytes.specs.Bytes.{byteOf}
 
+-- A byte made of a bit for each of the numbers 7 to 0.
+abbrev pub eachBit : (ℕ → Bool) → ℕ
+eachBit f = byteOf (f 7) (f 6) (f 5) (f 4) (f 3) (f 2) (f 1) (f 0)
+
 -- A test that is computed at each number below n, and what it says of one of them.
 abbrev allBelow : (ℕ → Bool) → ℕ → Bool
 allBelow f zero = true
@@ -23,13 +27,13 @@ below f (suc n) t k h =
     (λ (q : k < n). below f n (and-right (f n) (allBelow f n) t) k q) (eq-or-lt-of-le (le-of-suc-le-suc h))
 
 remade : ℕ → Bool
-remade v = eqb (byteOf (bit 7 v) (bit 6 v) (bit 5 v) (bit 4 v) (bit 3 v) (bit 2 v) (bit 1 v) (bit 0 v)) v
+remade v = eqb (eachBit (λ i. bit i v)) v
 
 all-remade : T (allBelow remade 256)
 unfolding remade
 all-remade = tt
 
 -- A byte is made of its own bits.
-pub byte-back : (v : ℕ) → v < 256 → byteOf (bit 7 v) (bit 6 v) (bit 5 v) (bit 4 v) (bit 3 v) (bit 2 v) (bit 1 v) (bit 0 v) ≡ v
+pub byte-back : (v : ℕ) → v < 256 → eachBit (λ i. bit i v) ≡ v
 unfolding remade
 byte-back v h = eqb→eq _ _ (below remade 256 all-remade v h)

@@ -11,13 +11,12 @@ use Rattle.mssp.specs.declared.Module.{Module}
 use Rattle.effects.specs.Effects.{heldForSending}
 use Rattle.registers.specs.declared.Register.{Register}
 use Rattle.registers.specs.declared.Register.the-variants.{Buf, Stat, Con1, Con2, Con3, Add, Msk, Flag, Nowhere}
-use Rattle.registers.specs.Values.{valueOf, registerOf}
+use Rattle.registers.specs.Values.{valueOf}
 use Rattle.register_bytes.specs.Bytes.{byteOf}
-use Rattle.writes.specs.Writes.{con1Stored, con1Then, written, verdictOf, writeOf}
+use Rattle.writes.specs.Writes.{con1Stored, con1Then, written, writeOf}
 use Rattle.refusals.specs.Numbers.{accepted}
-use Rattle.refusals.specs.declared.Verdict.{Verdict}
 use Rattle.register_bytes.specs.Bits.{bits-back}
-use Rattle.readback.specs.Bits.{byte-back}
+use Rattle.readback.specs.Bits.{eachBit, byte-back}
 
 -- What a register of a module holds.
 abbrev pub holds : Register → Module → ℕ
@@ -52,16 +51,7 @@ abbrev pub bitAfter : Bool → Bool → Bool → Bool → Bool
 bitAfter taken cleared old new = cond taken new (cond cleared (old && new) old)
 
 abbrev pub after : ℕ → ℕ → ℕ → ℕ → ℕ
-after taken cleared old new =
-    byteOf
-    (bitAfter (bit 7 taken) (bit 7 cleared) (bit 7 old) (bit 7 new))
-    (bitAfter (bit 6 taken) (bit 6 cleared) (bit 6 old) (bit 6 new))
-    (bitAfter (bit 5 taken) (bit 5 cleared) (bit 5 old) (bit 5 new))
-    (bitAfter (bit 4 taken) (bit 4 cleared) (bit 4 old) (bit 4 new))
-    (bitAfter (bit 3 taken) (bit 3 cleared) (bit 3 old) (bit 3 new))
-    (bitAfter (bit 2 taken) (bit 2 cleared) (bit 2 old) (bit 2 new))
-    (bitAfter (bit 1 taken) (bit 1 cleared) (bit 1 old) (bit 1 new))
-    (bitAfter (bit 0 taken) (bit 0 cleared) (bit 0 old) (bit 0 new))
+after taken cleared old new = eachBit (λ i. bitAfter (bit i taken) (bit i cleared) (bit i old) (bit i new))
 
 -- Of an old byte made of eight bits.
 made :
@@ -77,35 +67,57 @@ con1-kept true ckp v m e = refl
 con1-kept false true v m e = rw (← e)
 con1-kept false false v m e = refl
 
-flag-kept : (old new : Bool) → boolByte (old && new) ≡ byteOf (bit 7 (boolByte old)) (bit 6 (boolByte old)) (bit 5 (boolByte old)) (bit 4 (boolByte old)) (bit 3 (boolByte old)) (bit 2 (boolByte old)) (bit 1 (boolByte old)) (bit 0 (boolByte old) && new)
-flag-kept true true = refl
-flag-kept true false = refl
-flag-kept false true = refl
-flag-kept false false = refl
+-- The flag's byte has no other bit.
+lone-bit : (b : Bool) → boolByte b ≡ byteOf false false false false false false false b
+lone-bit true = refl
+lone-bit false = refl
 
 -- BUF is what was written while the clock is held for sending, else what it was.
 pub readback-buf : (v : ℕ) (m : Module) → holds Buf (written Buf v m) ≡ cond (heldForSending (m .phase)) v (m .live .buf)
 readback-buf v m = refl
 
--- Every other register, in every state and at each of the 256 values.
-pub readback : (r : Register) (v : ℕ) (m : Module) → (r ≡ Buf → ⊥) → v < 256 → holds r (written r v m) ≡ after (takes r) (clears r) (holds r m) v
+-- A register after a write: what the masks say of its old value and of what was written.
+abbrev pub ReadsBack : Register → ℕ → Module → Type 0
+ReadsBack r v m = holds r (written r v m) ≡ after (takes r) (clears r) (holds r m) v
+
+module _ (v : ℕ) (m : Module) where
+  stat-back : ReadsBack Stat v m
+  stat-back =
+      let c = m .config in let l = m .live in
+      sym (made (takes Stat) (clears Stat) v (c .smp) (c .cke) (l .da) (l .p) (l .s) (l .rw) false (l .bf))
+
+  con1-back : ReadsBack Con1 v m
+  con1-back =
+      let c = m .config in let l = m .live in
+      con1-kept (c .sspen && not (bit 5 v)) (bit 4 v) v m refl
+      ∙ sym (made (takes Con1) (clears Con1) v (c .wcol) (l .sspov) (c .sspen) (l .ckp) (c .sspm3) (c .sspm2) (c .sspm1) (c .sspm0))
+
+  con2-back : ReadsBack Con2 v m
+  con2-back =
+      let c = m .config in let l = m .live in
+      sym (made (takes Con2) (clears Con2) v (c .gcen) (l .ackstat) (c .ackdt) false false false false (c .sen))
+
+  con3-back : ReadsBack Con3 v m
+  con3-back =
+      let c = m .config in let l = m .live in
+      sym (made (takes Con3) (clears Con3) v (l .acktim) (c .pcie) (c .scie) false (c .sdaht) (c .sbcde) (c .ahen) (c .dhen))
+
+  flag-back : ReadsBack Flag v m
+  flag-back =
+      let old = m .live .sspif in
+      rw (lone-bit old)
+      (lone-bit (old && bit 0 v) ∙ sym (made (takes Flag) (clears Flag) v false false false false false false false old))
+
+-- Every register but BUF, in every state and at each of the 256 values.
+pub readback : (r : Register) (v : ℕ) (m : Module) → (r ≡ Buf → ⊥) → v < 256 → ReadsBack r v m
 readback Buf v m other h = absurd (other refl)
-readback Stat v m other h =
-    let c = m .config in let l = m .live in
-    sym (made 0xC0 0 v (c .smp) (c .cke) (l .da) (l .p) (l .s) (l .rw) false (l .bf))
-readback Con1 v m other h =
-    let c = m .config in let l = m .live in
-    con1-kept (c .sspen && not (bit 5 v)) (bit 4 v) v m refl
-    ∙ sym (made 0x3F 0xC0 v (c .wcol) (l .sspov) (c .sspen) (l .ckp) (c .sspm3) (c .sspm2) (c .sspm1) (c .sspm0))
-readback Con2 v m other h =
-    let c = m .config in let l = m .live in
-    sym (made 0xA1 0 v (c .gcen) (l .ackstat) (c .ackdt) false false false false (c .sen))
-readback Con3 v m other h =
-    let c = m .config in let l = m .live in
-    sym (made 0x6F 0 v (l .acktim) (c .pcie) (c .scie) false (c .sdaht) (c .sbcde) (c .ahen) (c .dhen))
+readback Stat v m other h = stat-back v m
+readback Con1 v m other h = con1-back v m
+readback Con2 v m other h = con2-back v m
+readback Con3 v m other h = con3-back v m
 readback Add v m other h = sym (byte-back v h)
 readback Msk v m other h = sym (byte-back v h)
-readback Flag v m other h = flag-kept (m .live .sspif) (bit 0 v)
+readback Flag v m other h = flag-back v m
 readback Nowhere v m other h = refl
 
 -- The registers that a write to one leaves alone. BUF's write may set BF in STAT or WCOL in CON1; CON1's may clear, where
@@ -157,8 +169,5 @@ leaves-place Flag v m other = (refl, refl)
 leaves-place Nowhere v m other = (refl, refl)
 
 -- A refused write leaves the module as it was given.
-refused-leaves-as : (verdict : Verdict) (m n : Module) → accepted verdict ≡ false → cond (accepted verdict) n m ≡ m
-refused-leaves-as verdict m n e = rw e
-
 pub refused-leaves : (number v : ℕ) (m : Module) → accepted (writeOf m number v .verdict) ≡ false → writeOf m number v .mssp ≡ m
-refused-leaves number v m e = refused-leaves-as (verdictOf (registerOf number) v) m (written (registerOf number) v m) e
+refused-leaves number v m e = rw e

@@ -76,10 +76,10 @@ module _ (bytes : List ℕ) where
   serve-handler :
       (sends da : Bool) (s : State) → ValidHandler (s .handler) → ValidHandler (serve sends da s bytes .state .handler)
   serve-handler true da s v =
-      record { some = v .some; most = v .most; inside = modulo-below (s .handler .n) (s .handler .pointer + 1) (v .some) }
+      record { some = v .some; most = v .most; inside = omega (arith, modulo-below (s .handler .n) (s .handler .pointer + 1) (v .some)) }
   serve-handler false true s v =
       let h = s .handler in
-      record { some = v .some; most = v .most; inside = put-inside (h .n) (h .due) (s .mssp .live .buf) (memoryIn s bytes) (v .some) }
+      record { some = v .some; most = v .most; inside = omega (arith, put-inside (h .n) (h .due) (s .mssp .live .buf) (memoryIn s bytes) (v .some)) }
   serve-handler false false s v = record { some = v .some; most = v .most; inside = v .inside }
 
   called-handler :
@@ -101,7 +101,7 @@ made-if false add n {s} e g =
     let is : stateOf (setup add) (handlerOf n 0 false) ≡ s = cc in
     let out = neither (eqb n 0) (ltb 256 n) e in
     let some : 0 < n = positive n (eqb-false n 0 (out .0)) in
-    rw (← is) (record { mssp = setup-valid add; handler = record { some = some; most = ltb-false 256 n (out .1); inside = some } })
+    rw (← is) (record { mssp = setup-valid add; handler = record { some = some; most = omega (arith, ltb-false 256 n (out .1)); inside = omega arith } })
 
 -- What set-up makes, whenever it makes one.
 pub setup-kept : (add n : ℕ) {s : State} → setupOf add n ≡ Ready s → ValidState s

@@ -7,6 +7,11 @@ use Rattle.door.specs.Laws.{decoded-length, no-image, of-state, access-s
 use Rattle.door.proofs.wherryoar_read.Statement.{statement}
 use Rattle.door.proofs.wherryoar_read.Tie as tie
 
+what-the-read-leaves : tie.Need-returns-2
+what-the-read-leaves c =
+    let a = c .before .before .before .before .before .before .before .before .before .before .before .before .before .before .args in
+    of-state _ (c .before .before .before .before .before .before .before .before .before .before .before .decode .ensures) _ _ (c .before .before .before .before .before .before .before .before .before .s .given .1) (access-settled (now (a .state)) (λ m. readOf m (a .number)) _ (c .before .before .before .before .before .before .read .ensures) (c .before .before .settle .ensures))
+
 pub wherryoar-read-spec : {M : Type 1} → statement M
 wherryoar-read-spec =
     tie.close
@@ -20,4 +25,4 @@ wherryoar-read-spec =
     (λ c. search needs)
     (λ c. no-image _ (c .before .before .before .decode .ensures) _ _ (c .before .enum-told .given .1) (simp (c .refuse .ensures)))
     (λ c. search needs)
-    (λ c. let a = c .before .before .before .before .before .before .before .before .before .before .before .before .before .before .args in of-state _ (c .before .before .before .before .before .before .before .before .before .before .before .decode .ensures) _ _ (c .before .before .before .before .before .before .before .before .before .s .given .1) (access-settled (now (a .state)) (λ m. readOf m (a .number)) _ (c .before .before .before .before .before .before .read .ensures) (c .before .before .settle .ensures))))
+    what-the-read-leaves)

@@ -5,6 +5,10 @@ use Rattle.door.specs.Laws.{decoded-length, no-image, of-state, level-re
 use Rattle.door.proofs.wherryoar_sample.Statement.{statement}
 use Rattle.door.proofs.wherryoar_sample.Tie as tie
 
+what-the-sample-leaves : tie.Need-returns-3
+what-the-sample-leaves c =
+    of-state _ (c .before .before .before .before .before .before .before .before .before .decode .ensures) _ _ (c .before .before .before .before .before .before .before .s .given .1) (level-settled _ _ (c .before .before .before .before .before .if1 .left) (c .before .before .before .before .sample .ensures) (c .before .before .settle .ensures))
+
 pub wherryoar-sample-spec : {M : Type 1} → statement M
 wherryoar-sample-spec =
     tie.close
@@ -21,4 +25,4 @@ wherryoar-sample-spec =
     (λ c. search needs)
     (λ c. no-image _ (c .before .before .before .decode .ensures) _ _ (c .before .enum-told .given .1) (simp (c .refuse .ensures)))
     (λ c. search needs)
-    (λ c. of-state _ (c .before .before .before .before .before .before .before .before .before .decode .ensures) _ _ (c .before .before .before .before .before .before .before .s .given .1) (level-settled _ _ (c .before .before .before .before .before .if1 .left) (c .before .before .before .before .sample .ensures) (c .before .before .settle .ensures))))
+    what-the-sample-leaves)

@@ -5,6 +5,11 @@ use borrow.Author.Tests.{lt-ltb, le-ltb, ne-eqb}
 use Rattle.firmware.proofs.set_up.Statement.{statement}
 use Rattle.firmware.proofs.set_up.Tie as tie
 
+-- Only a length of 1 to 256 makes a state.
+ready-in-range : tie.Need-returns-3
+ready-in-range c =
+    simp (ne-eqb _ _ (c .before .before .if1 .left), le-ltb _ _ (c .before .if2 .left), c .set-up .ensures)
+
 pub set-up-spec : {M : Type 1} → statement M
 set-up-spec =
     tie.close
@@ -13,4 +18,4 @@ set-up-spec =
     (λ c. simp (ne-eqb _ _ (c .before .if1 .left), lt-ltb _ _ (c .if2 .taken)))
     (λ c κs. search needs)
     (λ c. search needs)
-    (λ c. simp (ne-eqb _ _ (c .before .before .if1 .left), le-ltb _ _ (c .before .if2 .left), c .set-up .ensures)))
+    ready-in-range)

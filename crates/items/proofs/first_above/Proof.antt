@@ -17,6 +17,11 @@ Inv-loop items most at₀ at = Reached (λ (x : ℕ). leb x most) items 0 at
 abbrev μ-loop : tie.MeasureT-loop
 μ-loop items most at₀ at = length items - at
 
+-- What is told is above the bound.
+above-found : tie.Need-returns Inv-loop μ-loop
+above-found c =
+    from-start (reach-here (c .before .before .before .loop .inv) (c .before .before .loop-test .taken) (lt-leb _ _ (c .if1 .taken)))
+
 pub first-above-spec : {M : Type 1} → statement M
 first-above-spec =
     tie.close
@@ -26,7 +31,7 @@ first-above-spec =
     (λ c κs. search needs)
     (λ c. c .past-below .ensures)
     (λ c. omega arith)
-    (λ c. from-start (reach-here (c .before .before .before .loop .inv) (c .before .before .loop-test .taken) (lt-leb _ _ (c .if1 .taken))))
+    above-found
     (λ c. omega arith)
     (λ c. omega arith)
     (λ c. reach-on (c .before .before .before .loop .inv) (c .before .before .loop-test .taken) (le-leb _ _ (c .if1 .left)))

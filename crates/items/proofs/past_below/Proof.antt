@@ -17,13 +17,17 @@ Inv-loop items most at₀ at = Reached (λ (x : ℕ). leb x most) items 0 at
 abbrev μ-loop : tie.MeasureT-loop
 μ-loop items most at₀ at = length items - at
 
+-- The search begins at the first item.
+begins-at-the-first : tie.Need-loop-holds Inv-loop μ-loop
+begins-at-the-first c = reach-begins (omega arith)
+
 pub past-below-spec : {M : Type 1} → statement M
 past-below-spec =
     tie.close
     (tie.spec
     Inv-loop
     μ-loop
-    (λ c. reach-begins (omega arith))
+    begins-at-the-first
     (λ c. omega arith)
     (λ c κs. omega arith)
     (λ c. c .before .before .before .loop .inv)

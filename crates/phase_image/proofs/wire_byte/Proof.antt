@@ -11,7 +11,7 @@ wire-byte-spec =
     tie.close
     (tie.spec
     (λ c. search needs) (λ c. search needs) (λ c. search needs)
-    (λ c. omega (arith, one (c .before .remembered .given .0 .0)))
+    (λ c. omega (arith, one (c .before .remembered .given .0 .0), one (c .before .remembered .given .0 .1 .0)))
     (λ c. search needs)
     (λ c. omega (arith, one (c .before .remembered .given .0 .0), one (c .before .remembered .given .0 .1 .0)))
     (λ c. search needs)

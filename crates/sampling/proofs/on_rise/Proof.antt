@@ -4,6 +4,12 @@ use borrow.Author.Needs.{needs}
 use Rattle.sampling.proofs.on_rise.Statement.{statement}
 use Rattle.sampling.proofs.on_rise.Tie as tie
 
+slot-ends-acktim : tie.Need-returns-5
+slot-ends-acktim c = simp (c .enum-told3 .given .1)
+
+ackstat-is-sda : tie.Need-returns-8
+ackstat-is-sda c = simp (c .enum-told6 .given .1)
+
 pub on-rise-spec : {M : Type 1} → statement M
 on-rise-spec =
     tie.close
@@ -22,7 +28,7 @@ on-rise-spec =
     (λ c. simp (c .before .before .phase .given .1, c .push .ensures))
     (λ c. simp (c .before .before .phase2 .given .1, c .data-rise .ensures))
     (λ c. simp (c .enum-told2 .given .1))
-    (λ c. simp (c .enum-told3 .given .1))
+    slot-ends-acktim
     (λ c. simp (c .enum-told4 .given .1))
     (λ c. simp (c .enum-told5 .given .1))
-    (λ c. simp (c .enum-told6 .given .1)))
+    ackstat-is-sda)

@@ -4,6 +4,9 @@ use borrow.Author.Needs.{needs}
 use Rattle.sampling.proofs.sample.Statement.{statement}
 use Rattle.sampling.proofs.sample.Tie as tie
 
+lowered-where-pulled : tie.Need-returns
+lowered-where-pulled c = simp (← c .before .before .pulls-scl .ensures, ← c .before .pulls-sda .ensures) (c .see .ensures)
+
 pub sample-spec : {M : Type 1} → statement M
 sample-spec =
     tie.close
@@ -11,4 +14,4 @@ sample-spec =
     (λ c κs. search needs)
     (λ c κs. search needs)
     (λ c κs. search needs)
-    (λ c. simp (← c .before .before .pulls-scl .ensures, ← c .before .pulls-sda .ensures) (c .see .ensures)))
+    lowered-where-pulled)

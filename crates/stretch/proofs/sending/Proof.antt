@@ -18,6 +18,12 @@ Inv-loop byte first items place₀ w₀ i₀ place w i = Walking (sendingStops b
 abbrev μ-loop : tie.MeasureT-loop
 μ-loop byte first items place₀ w₀ i₀ place w i = length items - i
 
+-- A level that ends the stretch, as the byte's last fall does.
+last-fall-stops : tie.Need-returns-2 Inv-loop μ-loop
+last-fall-stops c =
+    walk-stops sentOf (c .before .before .before .before .before .before .loop .inv) (c .before .before .before .before .before .loop-test .taken)
+    (by-level _ (c .before .before .before .if1 .left) (rw (c .before .before .is-zero-at .ensures) at (c .before .is-end .ensures)) (c .if2 .taken))
+
 pub sending-spec : {M : Type 1} → statement M
 sending-spec =
     tie.close
@@ -29,9 +35,7 @@ sending-spec =
     (λ c. walk-stops sentOf (c .before .before .before .loop .inv) (c .before .before .loop-test .taken) (no-level _ _ (c .if1 .taken)))
     (λ c κs. search needs)
     (λ c κs. search needs)
-    (λ c.
-    walk-stops sentOf (c .before .before .before .before .before .before .loop .inv) (c .before .before .before .before .before .loop-test .taken)
-    (by-level _ (c .before .before .before .if1 .left) (rw (c .before .before .is-zero-at .ensures) at (c .before .is-end .ensures)) (c .if2 .taken)))
+    last-fall-stops
     (λ c κs. search needs)
     (λ c κs. search needs)
     (λ c. omega arith)

@@ -17,6 +17,12 @@ Inv-loop items b₀ w₀ i₀ b w i = Walking takingStops takingGoes items (b₀
 abbrev μ-loop : tie.MeasureT-loop
 μ-loop items b₀ w₀ i₀ b w i = length items - i
 
+-- A level that ends the stretch, as the fall that ends a byte does.
+byte-end-stops : tie.Need-returns-2 Inv-loop μ-loop
+byte-end-stops c =
+    walk-stops takenOf (c .before .before .before .before .before .before .loop .inv) (c .before .before .before .before .before .loop-test .taken)
+    (by-level _ (c .before .before .before .if1 .left) (rw (c .before .before .is-whole .ensures) at (c .before .is-end .ensures)) (c .if2 .taken))
+
 pub taking-spec : {M : Type 1} → statement M
 taking-spec =
     tie.close
@@ -28,9 +34,7 @@ taking-spec =
     (λ c. walk-stops takenOf (c .before .before .before .loop .inv) (c .before .before .loop-test .taken) (no-level _ _ (c .if1 .taken)))
     (λ c κs. search needs)
     (λ c κs. search needs)
-    (λ c.
-    walk-stops takenOf (c .before .before .before .before .before .before .loop .inv) (c .before .before .before .before .before .loop-test .taken)
-    (by-level _ (c .before .before .before .if1 .left) (rw (c .before .before .is-whole .ensures) at (c .before .is-end .ensures)) (c .if2 .taken)))
+    byte-end-stops
     (λ c κs. search needs)
     (λ c κs. search needs)
     (λ c. omega arith)

@@ -7,6 +7,11 @@ use Rattle.firmware.specs.Laws.{part-back}
 use Rattle.trace.proofs.run_part.Statement.{statement}
 use Rattle.trace.proofs.run_part.Tie as tie
 
+-- What the run did to the window comes back where the window was lent from.
+back-in-its-place : tie.Need-returns
+back-in-its-place c =
+    let a = c .before .before .before .before .before .before .args in part-back (λ bytes. runOf (a .s) bytes (now (a .items))) (now (a .buffer)) (a .start) (a .n) (c .before .before .run .ensures)
+
 pub run-part-spec : {M : Type 1} → statement M
 run-part-spec =
     tie.close
@@ -17,4 +22,4 @@ run-part-spec =
     (λ c. search needs)
     (λ c κs. search needs)
     (λ c. search needs)
-    (λ c. let a = c .before .before .before .before .before .before .args in part-back (λ bytes. runOf (a .s) bytes (now (a .items))) (now (a .buffer)) (a .start) (a .n) (c .before .before .run .ensures)))
+    back-in-its-place)

@@ -4,6 +4,12 @@ use borrow.Author.Needs.{needs}
 use Rattle.writes.proofs.write_verdict.Statement.{statement}
 use Rattle.writes.proofs.write_verdict.Tie as tie
 
+mode-is-modelled : tie.Need-returns-3
+mode-is-modelled c = simp (c .before .enum-told3 .given .1) (c .pick-verdict .ensures)
+
+boen-is-reserved : tie.Need-returns-5
+boen-is-reserved c = simp (c .before .enum-told5 .given .1) (c .pick-verdict3 .ensures)
+
 pub write-verdict-spec : {M : Type 1} → statement M
 write-verdict-spec =
     tie.close
@@ -22,9 +28,9 @@ write-verdict-spec =
     (λ c. search needs)
     (λ c. search needs)
     (λ c. search needs)
-    (λ c. simp (c .before .enum-told3 .given .1) (c .pick-verdict .ensures))
+    mode-is-modelled
     (λ c. simp (c .before .enum-told4 .given .1) (c .pick-verdict2 .ensures))
-    (λ c. simp (c .before .enum-told5 .given .1) (c .pick-verdict3 .ensures))
+    boen-is-reserved
     (λ c. search needs)
     (λ c. search needs)
     (λ c. search needs)
