@@ -37,10 +37,13 @@ module _ (run : Run) (memory output : List ℕ) where
       let p : Page = penned (lineOf (run .item) (s .watched .heard) (s .watched .world .state .handler .pointer)) (page (run .at) output) in
       progress (runOf (s .watched .world) (run .item + 1) (p .at)) (s .memory) (p .bytes)) e
 
+  pub next-item : (x : Item) {g : Progress} → g ≡ itemPassed run memory output x → g .run .item ≡ run .item + 1
+  next-item x e = ap (λ (g : Progress). g .run .item) e
+
   pub byte-passed :
       (byte : ℕ) {here told : Meaning} → here ≡ told → here ≡ meaningOf byte
-      → bytePassed run memory output told ≡ bytePassed run memory output (meaningOf byte)
-  byte-passed byte e f = ap (bytePassed run memory output) (sym e ∙ f)
+      → {g : Progress} → g ≡ bytePassed run memory output told → g ≡ bytePassed run memory output (meaningOf byte)
+  byte-passed byte e f k = k ∙ ap (bytePassed run memory output) (sym e ∙ f)
 
 -- The page once the items left have their lines too.
 abbrev pub finished : Progress → List Item → Page

@@ -55,7 +55,7 @@ texts-3 a b c p e f g = g ∙ rw (f, e) (simp (penned-joined, append-assoc))
 pub texts-4 :
     (a b c d : List ℕ) (p : Page) {q r s t : Page} → q ≡ penned a p → r ≡ penned b q → s ≡ penned c r → t ≡ penned d s
     → t ≡ penned (a ++ (b ++ (c ++ d))) p
-texts-4 a b c d p e f g h = h ∙ rw g (simp (penned-joined, append-assoc)) ∙ texts-3 a b (c ++ d) p e f refl
+texts-4 a b c d p e f g h = h ∙ rw (g, penned-joined) (texts-3 a b (c ++ d) p e f refl)
 
 -- A text, byte by byte.
 module _ (text : List ℕ) (p : Page) (i : ℕ) where
@@ -157,10 +157,12 @@ module _ (item pointer : ℕ) {heard told : Heard} (e : heard ≡ told) where
   pub no-line : told ≡ Silence → (at : ℕ) (bytes : List ℕ) → page at bytes ≡ penned (lineOf item heard pointer) (page at bytes)
   no-line s at bytes = rw (e, s) (penned-none at bytes)
 
-  pub line-of-row : {row shown : Row} → row ≡ shown → lineOf item told pointer ≡ rowLine item shown pointer
-      → lineOf item heard pointer ≡ rowLine item row pointer
-  line-of-row f same = rw e (same ∙ rw f)
+  module _ {row shown : Row} (f : row ≡ shown) (same : lineOf item told pointer ≡ rowLine item shown pointer) where
+    line-of-row : lineOf item heard pointer ≡ rowLine item row pointer
+    line-of-row = rw e (same ∙ rw f)
 
-  pub room-for-row : {row shown : Row} → row ≡ shown → lineOf item told pointer ≡ rowLine item shown pointer → (at most : ℕ)
-      → at + length (lineOf item heard pointer) < most → at + length (rowLine item row pointer) < most
-  room-for-row f same at most h = rw (← line-of-row f same) h
+    pub row-put : (p : Page) {q : Page} → q ≡ penned (rowLine item row pointer) p → q ≡ penned (lineOf item heard pointer) p
+    row-put p w = w ∙ rw line-of-row
+
+    pub room-for-row : (at most : ℕ) → at + length (lineOf item heard pointer) < most → at + length (rowLine item row pointer) < most
+    room-for-row at most h = rw (← line-of-row) h

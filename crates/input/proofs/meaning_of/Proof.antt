@@ -10,7 +10,7 @@ meaning-of-spec =
     tie.close
     (tie.spec
     (λ c. simp (c .if1 .taken))
-    (λ c. simp (c .before .if1 .left, c .if2 .taken))
+    (λ c. simp (c .if2 .taken))
     (λ c. simp (c .before .before .if1 .left, ne-eqb _ _ (c .before .if2 .left), c .if3 .taken))
     (λ c. ltb-false _ _ (neither-left _ _ (c .if3 .left)))
     (λ c. simp (c .before .before .if1 .left, ne-eqb _ _ (c .before .if2 .left), c .if3 .left)))

@@ -1,8 +1,8 @@
 -- `text::put_event` meets its contract: the line is that of the row of what was heard.
 -- Assumes nothing.
 use borrow.Author.Needs.{needs}
-use mathlib.Core.Path.{refl, _∙_}
-use Rattle.text.specs.Laws.{no-line, line-of-row, room-for-row}
+use mathlib.Core.Path.{refl}
+use Rattle.text.specs.Laws.{no-line, row-put, room-for-row}
 use Rattle.text.proofs.put_event.Statement.{statement}
 use Rattle.text.proofs.put_event.Tie as tie
 
@@ -28,19 +28,19 @@ start-shown : tie.Need-returns-2
 start-shown c =
     let p = c .before .before in
     let r = p .before in
-    p .put-row .ensures ∙ rw (line-of-row _ _ (r .before .before .enum-told2 .given .1) (r .condition-row .ensures) refl)
+    row-put _ _ (r .before .before .enum-told2 .given .1) (r .condition-row .ensures) refl _ (p .put-row .ensures)
 
 stop-shown : tie.Need-returns-3
 stop-shown c =
     let p = c .before .before in
     let r = p .before in
-    p .put-row2 .ensures ∙ rw (line-of-row _ _ (r .before .before .enum-told3 .given .1) (r .condition-row2 .ensures) refl)
+    row-put _ _ (r .before .before .enum-told3 .given .1) (r .condition-row2 .ensures) refl _ (p .put-row2 .ensures)
 
 byte-shown : tie.Need-returns-4
 byte-shown c =
     let p = c .before .before in
     let r = p .before in
-    p .put-row3 .ensures ∙ rw (line-of-row _ _ (r .before .before .before .heard .given .1) (r .byte-row .ensures) refl)
+    row-put _ _ (r .before .before .before .heard .given .1) (r .byte-row .ensures) refl _ (p .put-row3 .ensures)
 
 pub put-event-spec : {M : Type 1} → statement M
 put-event-spec =
