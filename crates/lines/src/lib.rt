@@ -33,8 +33,7 @@ fn pass_item(run: Run, memory: &mut [u8], output: &mut [u8], item: Item) -> Run
         ≡ itemPassed run (now (memory .entry)) (now (output .entry)) item ⌝ }
     ensures { λ r. ⌜ r .at ≤ run .at + 19 ⌝ }
 {
-    let world = run.world;
-    let watched = watch::watch(world, memory, item);
+    let watched = watch::watch(run.world, memory, item);
     let next = watched.world;
     let heard = watched.heard;
     let at = text::put_event(output, run.at, run.item, heard, next.state.handler.pointer);

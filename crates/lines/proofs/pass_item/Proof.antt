@@ -10,7 +10,7 @@ use Rattle.lines.proofs.pass_item.Tie as tie
 room-for-line : tie.Need-put-event-requires
 room-for-line c κs =
     let w = c .before .before .before .before in
-    let s = w .before .before .before .before .before in
+    let s = w .before .before .before .before in
     let o = w .watch .result in
     omega (arith, line-room (s .args .run .item) (o .world .state .handler .pointer) (o .heard) (s .pre .0) (omega (arith, w .watch .ok)))
 
@@ -18,7 +18,7 @@ pointer-after-the-item : tie.Need-returns
 pointer-after-the-item c =
     let e = c .before .before .before in
     let w = e .before .before .before .before .before in
-    let s = w .before .before .before .before .before in
+    let s = w .before .before .before .before in
     let o = w .watch .result in
     let p = e .put-event .ensures in (
       item-passed (s .args .run) (s .args .memory .now) (s .args .output .now) (s .args .item) (w .watch .ensures) p,
