@@ -120,7 +120,6 @@ tell_instructions() {
     budgets <"$out/counts" || status=1
     echo
     sigrok_table "instructions (x86-64, counted by $counter)" "$out/counts" <"$out/sigrok_counts" || status=1
-    echo
     return $status
 }
 
@@ -198,6 +197,7 @@ if [ "$part" != times ]; then
     by_instructions || status=1
 fi
 if wanted times; then
+    [ "$part" = times ] || echo
     tell_times || status=1
 fi
 exit $status

@@ -122,7 +122,8 @@ count_sigrok() {
         return 1
     fi
     lay_first && first=$(counted $sigrok_x86 $(reading "$out/first")) && all_read 1 || return 1
-    at_each count_reading "$first" >"$out/sigrok_counts"
+    at_each count_reading "$first" >"$out/sigrok_counts" || return 1
+    echo "sigrok takes$(awk '{ printf " %d", $4 }' "$out/sigrok_counts") instructions an item at $densities samples per clock"
 }
 
 # ---- Times ----
