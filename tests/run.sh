@@ -1,5 +1,8 @@
 #!/usr/bin/env bash
 # Builds the archive and runs the C tests with it: on x86-64 as they are, elsewhere under an emulator. The last line counts.
+#
+#     run.sh          all of them
+#     run.sh quick    in seconds: fewer rounds, no bench, and the archive that there is if its crate has not changed since
 set -u
 cd "$(dirname "$0")/.." || exit 2
 . tools/machine.sh
@@ -9,6 +12,11 @@ mkdir -p "$out"
 strict="-Wall -Wextra -Wpedantic -Werror"
 steps=20000000 mutations=4000000 dense=20000000
 [ -z "$RUN" ] || steps=1000000 mutations=1000000 dense=3000000 # an emulator is slow
+case ${1:-} in
+"") quick= ;;
+quick) quick=yes steps=200000 mutations=100000 dense=200000 ;;
+*) echo "usage: run.sh [quick]" >&2; exit 2 ;;
+esac
 door="-Iinclude -Itests -Itests/second -DDOOR_PREFIX=wherryoar_ -DDOOR_HEADER=\"wherryoar.h\""
 archive=target/staticlib/libdoor.a
 
@@ -68,8 +76,14 @@ report_case() { # report_case NAME
     text_of "$1.in" >"$out/report.in" && text_of "$1.out" >"$out/report.expected" &&
         $RUN_PROGRAM target/bin/report <"$out/report.in" >"$out/report.out" && cmp "$out/report.out" "$out/report.expected"
 }
+# The answer to the complaint is as it is stored, and as the document that gives it shows it.
+same_edges() {
+    examples/left_edge.py >"$out/left_edge.out" && diff "$out/left_edge.out" examples/left_edge.out &&
+        [ "$(grep -cxFf examples/left_edge.out docs/ANSWER.md)" -eq "$(wc -l <examples/left_edge.out)" ]
+}
 report_cases() {
     local name
+    try left_edge same_edges
     for name in $(ls tests/report | sed -n 's/\.in\(\.sh\)\{0,1\}$//p' | sort -u); do
         try "report_$name" report_case "$name"
     done
@@ -135,23 +149,33 @@ as_a_whole() {
 
 # ---- All of them: while the archive is built, those without it; what is timed, by itself ----
 
-rm -f "$archive"
-beside archive try archive rt staticlib door
+# The archive, and the state of its crate that it was built from.
+make_archive() {
+    rt staticlib door && cp target/stamp/door "$out/built_from"
+}
+up_to_date() {
+    [ -n "$quick" ] && [ -f "$archive" ] && cmp -s target/stamp/door "$out/built_from"
+}
+whole() { # whole COMMAND..: not among the quick tests
+    [ -n "$quick" ] || "$@"
+}
+
+up_to_date || { rm -f "$archive" && beside archive try archive make_archive; }
 beside second_program second_program
-beside sigrok_counted try bench_sigrok bench/run.sh sigrok
+whole beside sigrok_counted try bench_sigrok bench/run.sh sigrok
 beside header header
 beside report_cases report_cases
 settle
 export ARCHIVE_BUILT=1 # nothing below builds it again; if it could not be built, all of it fails
 
 beside compared compared
-beside instructions try bench_instructions bench/run.sh instructions
+whole beside instructions try bench_instructions bench/run.sh instructions
 through_the_door beside_others
 beside dense_runs dense_runs
 beside as_a_whole as_a_whole
 settle
 
-try bench_times bench/run.sh times
+whole try bench_times bench/run.sh times
 
 echo "$passed passed, $failed failed"
 [ "$failed" -eq 0 ]
