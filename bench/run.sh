@@ -2,6 +2,11 @@
 # Prints what an item costs in the archive, in the second program and in sigrok, by instructions of x86-64 and by times, and
 # whether the budgets are kept. A budget in instructions that is not kept ends this with 1; a time fails nothing, since another
 # program on the machine can spoil it.
+#
+#   bench/run.sh [sigrok | instructions | times]
+#
+# A part of it: sigrok's instructions, which needs no archive; those of the archive and of the second program, with the verdicts
+# on both and on what the part before has counted; the times, for which the machine should do nothing else.
 set -u
 cd "$(dirname "$0")/.." || exit 2
 . tools/machine.sh
@@ -9,9 +14,13 @@ cd "$(dirname "$0")/.." || exit 2
 archive=target/staticlib/libdoor.a
 out=$(pwd)/target/bench
 mkdir -p "$out"
-build_archive || exit 1
-$CC_ARCHIVE -std=c99 -O2 -Wall -Wextra -Wpedantic -Werror -Iinclude -Itests/second -o "$out/bench" \
-    bench/bench.c tests/second/second.c "$archive" || exit 1
+densities="2 4 20 100"
+strict="-std=c99 -O2 -Wall -Wextra -Wpedantic -Werror -Itests -Itests/second"
+door="-Iinclude -DDOOR_PREFIX=wherryoar_ -DDOOR_HEADER=\"wherryoar.h\""
+
+build_bench() {
+    build_archive && $CC_ARCHIVE $strict $door -o "$out/bench" bench/bench.c bench/capture.c tests/second/second.c "$archive"
+}
 
 # Lines 'samples-per-clock items run second-run sample second-sample' as a table.
 table() { # table WHAT
@@ -43,50 +52,78 @@ budgets() {
     }'
 }
 
+# ---- Instructions ----
+
 # The instructions of a command, by whatever counts them here; what it prints goes to $out/told. Before the command may stand
-# options of the emulator, where there is one.
-counted() { # counted COMMAND..
+# options of the emulator, where there is one. Names are bound at the start, so that no call pays for it.
+counted() ( # counted COMMAND..
+    set -o pipefail
+    export LD_BIND_NOW=1
     if [ -z "$RUN" ]; then
         valgrind --tool=callgrind --callgrind-out-file=/dev/null "$@" 2>&1 >"$out/told" |
-            sed -n 's/.*Collected *: *\([0-9]*\).*/\1/p'
+            sed -n 's/.*Collected *: *\([0-9]*\).*/\1/p' | grep .
     else
-        $RUN -plugin "$out/count.so" "$@" 2>&1 >"$out/told" | sed -n 's/^instructions \([0-9]*\)$/\1/p'
+        $RUN -plugin "$out/count.so" "$@" 2>&1 >"$out/told" | sed -n 's/^instructions \([0-9]*\)$/\1/p' | grep .
     fi
-}
+)
 
-# The instructions an item takes in a function: the capture fed twice less the capture fed once.
-per_item() { # per_item FUNCTION SAMPLES-PER-CLOCK ITEMS
-    local once twice
-    once=$(counted "$out/bench" "$1" "$2" 1)
-    twice=$(counted "$out/bench" "$1" "$2" 2)
-    [ -n "$once" ] && [ -n "$twice" ] || return 1
-    awk -v a="$once" -v b="$twice" -v n="$3" 'BEGIN { printf "%.3f", (b - a) / n }'
-}
-
-# A table of instructions.
-count_all() {
-    local density items function line
-    for density in 2 4 20 100; do
-        items=$($RUN "$out/bench" second_run "$density" 1)
-        line="$density $items"
-        for function in wherryoar_run second_run wherryoar_sample second_sample; do
-            line="$line $(per_item "$function" "$density" "$items")" || return 1
-        done
-        echo "$line"
-    done
-}
-
-# The emulator's counter, for the version of its plugins that it takes.
-build_counter() {
+# What counts here, in counter. The emulator's is built for the version of its plugins that it takes.
+find_counter() {
     local version
+    counter="valgrind's callgrind"
+    if [ -z "$RUN" ]; then
+        need valgrind valgrind
+        return
+    fi
+    counter="a plugin of the emulator"
     need gcc gcc || return 1
     for version in 1 2 3 4 5; do
         gcc -std=c99 -O2 -Wall -Wextra -Wpedantic -Werror -fPIC -shared -DPLUGIN_VERSION=$version -o "$out/count.so" \
             bench/count.c || return 1
-        [ -n "$(counted "$out/bench" second_run 2 0)" ] && return 0
+        [ -n "$(counted "$out/wire" pair 2 /dev/null)" ] && return 0
     done
     return 1
 }
+
+# A line 'samples-per-clock items run second-run sample second-sample': the instructions with the capture fed once less those
+# without.
+count_items() { # count_items SAMPLES-PER-CLOCK
+    local function without once items line
+    without=$(counted "$out/bench" second_run "$1" 0) && read -r items <"$out/told" || return 1
+    line="$1 $items"
+    for function in wherryoar_run second_run wherryoar_sample second_sample; do
+        once=$(counted "$out/bench" "$function" "$1" 1) || return 1
+        line="$line $(awk -v a="$without" -v b="$once" -v n="$items" 'BEGIN { printf "%.3f", (b - a) / n }')"
+    done
+    echo "$line"
+}
+
+# The wire that sigrok reads comes from the second program; the archive brings the same.
+same_wires() {
+    local density
+    $CC_ARCHIVE $strict $door -o "$out/wire_archive" bench/wire.c bench/capture.c "$archive" || return 1
+    for density in $densities; do
+        $RUN "$out/wire" counted "$density" "$out/copy" >"$out/made" &&
+            $RUN "$out/wire_archive" counted "$density" "$out/copy_archive" | cmp - "$out/made" &&
+            cmp "$out/copy" "$out/copy_archive" || return 1
+    done
+}
+
+# The tables of instructions, and the verdicts.
+tell_instructions() {
+    local density status=0
+    build_bench && same_wires || return 1
+    for density in $densities; do
+        count_items "$density" || return 1
+    done >"$out/counts"
+    table "instructions (x86-64, counted by $counter)" <"$out/counts" || return 1
+    budgets <"$out/counts" || status=1
+    echo
+    sigrok_table "instructions (x86-64, counted by $counter)" "$out/counts" <"$out/sigrok_counts" || status=1
+    return $status
+}
+
+# ---- Times ----
 
 # Times the four once more. The best of each stays in $out/times: another program can slow this machine for seconds on end, so
 # the times are taken at several moments.
@@ -99,31 +136,68 @@ take_times() {
     ' "$out/times" "$out/times_now" >"$out/times_best" && mv "$out/times_best" "$out/times"
 }
 
+# The tables of times. Under an emulator nothing is judged by them, and one moment is enough.
+tell_times() {
+    local moment moments=3 sigrok=1
+    [ -z "$RUN" ] || moments=1
+    need sigrok-cli sigrok-cli || sigrok=
+    rm -f "$out/times" "$out"/seconds_*
+    build_bench && lay_first || return 1
+    for ((moment = 0; moment < moments; moment++)); do
+        take_times && { [ -z "$sigrok" ] || time_sigrok; } || return 1
+    done
+    if [ -z "$RUN" ]; then
+        table "nanoseconds (best of several)" <"$out/times" || return 1
+        budgets <"$out/times"
+        echo
+    else
+        echo "This machine is $(uname -m): the archive runs under an emulator, where times beside the second program mean nothing."
+    fi
+    if [ -n "$sigrok" ]; then
+        tell_sigrok_times
+    else
+        echo "sigrok-cli cannot be had, so there is no comparison with its times."
+    fi
+}
+
+# ---- The parts ----
+
+part=${1:-all}
+wanted() { # wanted PART
+    [ "$part" = all ] || [ "$part" = "$1" ]
+}
+
+# The parts that count, where something counts. An emulator need not take a plugin; valgrind has to be there.
+by_instructions() {
+    local status=0
+    if ! find_counter; then
+        echo "There is nothing here that counts, so no instructions are given."
+        [ -n "$RUN" ]
+        return
+    fi
+    if wanted sigrok; then
+        count_sigrok || status=1
+    fi
+    if wanted instructions; then
+        tell_instructions || status=1
+    fi
+    return $status
+}
+
+case $part in
+all | sigrok | instructions | times) ;;
+*)
+    echo "usage: bench/run.sh [sigrok | instructions | times]" >&2
+    exit 2
+    ;;
+esac
 status=0
-rm -f "$out/times"
-take_times || exit 1
-if [ -z "$RUN" ]; then
-    need valgrind valgrind || exit 2
-    counter="valgrind's callgrind"
-else
-    echo "This machine is $(uname -m): the archive runs under an emulator, where times beside the second program mean nothing."
-    counter="a plugin of the emulator"
+build_wire || exit 1
+if [ "$part" != times ]; then
+    by_instructions || status=1
 fi
-if [ -z "$RUN" ] || build_counter; then
-    count_all >"$out/counts" || exit 1
-    table "instructions (x86-64, counted by $counter)" <"$out/counts" || exit 1
-    budgets <"$out/counts" || status=1
-    echo
-    count_sigrok "$out/counts" || status=1
-else
-    echo "The emulator takes no plugin that counts, so no instructions are given either."
+if wanted times; then
+    [ "$part" = times ] || echo
+    tell_times || status=1
 fi
-echo
-take_times || exit 1
-if [ -z "$RUN" ]; then
-    table "nanoseconds (best of several)" <"$out/times" || exit 1
-    budgets <"$out/times"
-    echo
-fi
-time_sigrok "$out/times" || status=1
 exit $status

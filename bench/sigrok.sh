@@ -1,6 +1,9 @@
 # Sourced by run.sh: what sigrok takes to read the wire of the capture, beside run and sample. By instructions, sigrok for x86-64
-# counted as the archive is; by times, sigrok as it is installed here. Its start is no part of an item: it reads several copies
-# of the wire and one, and the difference is divided by the items.
+# counted as the archive is; by times, sigrok as it is installed here. Its start is no part of an item: it reads a first record
+# alone, then that record with the wire behind it, and the difference is divided by the items of the wire.
+
+# A dictionary of Python is laid out by chance, unless it is told otherwise: then sigrok's instructions are the same each time.
+export PYTHONHASHSEED=0
 
 # Whether sigrok read every byte: a pair of messages has 19, ten of them in its write; only the last byte read is refused.
 # Without what the module pulls the wire would hold no acknowledge of it.
@@ -17,18 +20,41 @@ all_read() { # all_read PAIRS
     }' "$out/told"
 }
 
-# Lays the wire of a capture and some copies of it in a row into files; sets items and pairs to what the capture has.
-lay_wire() { # lay_wire timed_wire|counted_wire SAMPLES-PER-CLOCK COPIES
-    local copy
-    $RUN "$out/bench" "$1" "$2" "$out/wire_1" >"$out/made" && read -r items pairs <"$out/made" || return 1
-    for ((copy = 0; copy < $3; copy++)); do
-        cat "$out/wire_1"
-    done >"$out/wire_$3"
+# The words after sigrok's name that make it read a record.
+reading() { # reading RECORD
+    echo "-I binary:numchannels=2 -i $1 -P i2c:scl=1:sda=0:address_format=unshifted -A i2c=addr-data"
 }
 
-# The words after sigrok's name that make it read so many copies.
-reading() { # reading COPIES
-    echo "-I binary:numchannels=2 -i $out/wire_$1 -P i2c:scl=1:sda=0:address_format=unshifted -A i2c=addr-data"
+# The program that writes wires, with the second program behind it: sigrok can be counted before there is an archive.
+build_wire() {
+    $CC_ARCHIVE $strict -o "$out/wire" bench/wire.c bench/capture.c tests/second/second.c
+}
+
+# The first record is the wire of one pair of messages.
+lay_first() {
+    $RUN "$out/wire" pair 2 "$out/first" >"$out/made"
+}
+
+# Lays the first record and behind it so many copies of a wire; sets items and pairs to what the copies have.
+lay_record() { # lay_record counted|timed SAMPLES-PER-CLOCK COPIES
+    local copy
+    $RUN "$out/wire" "$1" "$2" "$out/copy" >"$out/made" && read -r items pairs <"$out/made" || return 1
+    items=$((items * $3)) pairs=$((pairs * $3))
+    cat "$out/first"
+    for ((copy = 0; copy < $3; copy++)); do
+        cat "$out/copy"
+    done
+} >"$out/record"
+
+# One line for each number of samples per clock, by the function given.
+at_each() { # at_each FUNCTION ARGUMENTS..
+    local density
+    for density in $densities; do
+        if ! "$1" "$density" "${@:2}"; then
+            echo "sigrok did not read the bytes of the capture at $density samples per clock, or was not measured." >&2
+            return 1
+        fi
+    done
 }
 
 # Lines 'samples-per-clock items bytes cost' as a table beside the costs of run and sample; fails where run is less than 100
@@ -55,17 +81,6 @@ sigrok_table() { # sigrok_table WHAT COSTS-OF-RUN-AND-SAMPLE
     }' "$2" -
 }
 
-# One line for each number of samples per clock, by the function given.
-at_each() { # at_each FUNCTION
-    local density
-    for density in 2 4 20 100; do
-        if ! "$1" "$density"; then
-            echo "sigrok did not read the bytes of the capture at $density samples per clock, or was not measured." >&2
-            return 1
-        fi
-    done
-}
-
 # ---- Instructions ----
 
 # sigrok for x86-64, in sigrok_x86 as a command for the counter. On another machine it is Debian's for x86-64, unpacked in a
@@ -88,66 +103,61 @@ find_sigrok_x86() {
     [ -n "$loader" ]
 }
 
-# A line 'samples-per-clock items bytes instructions', from two copies and one.
-counted_item() { # counted_item SAMPLES-PER-CLOCK
-    local items pairs once twice
-    lay_wire counted_wire "$1" 2 || return 1
-    once=$(counted $sigrok_x86 $(reading 1)) && all_read "$pairs" || return 1
-    twice=$(counted $sigrok_x86 $(reading 2)) && all_read $((2 * pairs)) || return 1
-    [ -n "$once" ] && [ -n "$twice" ] || return 1
-    awk -v density="$1" -v items="$items" -v bytes=$((pairs * 19)) -v once="$once" -v twice="$twice" '
-    BEGIN { printf "%d %d %d %.3f\n", density, items, bytes, (twice - once) / items }'
+# A line 'samples-per-clock items bytes instructions'.
+count_reading() { # count_reading SAMPLES-PER-CLOCK INSTRUCTIONS-FOR-THE-FIRST-RECORD
+    local items pairs both
+    lay_record counted "$1" 1 || return 1
+    both=$(counted $sigrok_x86 $(reading "$out/record")) && all_read $((1 + pairs)) || return 1
+    awk -v density="$1" -v items="$items" -v bytes=$((pairs * 19)) -v first="$2" -v both="$both" '
+    BEGIN { printf "%d %d %d %.3f\n", density, items, bytes, (both - first) / items }'
 }
 
-# The table by instructions. Its budget is judged, so a sigrok for x86-64 that cannot be had fails and is not passed over.
-count_sigrok() { # count_sigrok COUNTS
+# Such a line for each number of samples per clock, in $out/sigrok_counts. What comes of them is judged, so a sigrok for x86-64
+# that cannot be had fails and is not passed over.
+count_sigrok() {
+    local first
+    rm -f "$out/sigrok_counts"
     if ! find_sigrok_x86; then
         echo "sigrok for x86-64 cannot be had, so its instructions are not counted."
         return 1
     fi
-    at_each counted_item >"$out/sigrok" && sigrok_table "instructions (x86-64, counted by $counter)" "$1" <"$out/sigrok"
+    lay_first && first=$(counted $sigrok_x86 $(reading "$out/first")) && all_read 1 || return 1
+    at_each count_reading "$first" >"$out/sigrok_counts" || return 1
+    echo "sigrok takes$(awk '{ printf " %d", $4 }' "$out/sigrok_counts") instructions an item at $densities samples per clock"
 }
 
 # ---- Times ----
 
-# A line 'copies seconds': the processor time that sigrok takes to read so many copies of a wire.
-timed_reading() { # timed_reading COPIES PAIRS
+# The processor time, in seconds, that sigrok takes to read a record.
+timed_reading() { # timed_reading RECORD PAIRS
     local TIMEFORMAT='%U %S' LC_ALL=C
-    { time sigrok-cli $(reading "$1") >"$out/told" 2>"$out/sigrok_said"; } 2>&1 | awk -v copies="$1" '{ print copies, $1 + $2 }'
-    all_read $(($1 * $2))
+    { time sigrok-cli $(reading "$1") >"$out/told" 2>"$out/sigrok_said"; } 2>&1 | awk '{ print $1 + $2 }'
+    all_read "$2"
 }
 
-# A line 'samples-per-clock items bytes nanoseconds', the best of these rounds and of all before them. The copies make the clocks
-# about as many whatever the samples per clock.
-timed_item() { # timed_item SAMPLES-PER-CLOCK
-    local copies=$(($1 / 2 + 1)) items pairs round
-    lay_wire timed_wire "$1" "$copies" || return 1
-    for round in 1 2 3; do
-        timed_reading 1 "$pairs" && timed_reading "$copies" "$pairs" || return 1
-    done >>"$out/rounds_$1"
-    awk -v density="$1" -v items="$items" -v bytes=$((pairs * 19)) -v copies="$copies" '
-    !($1 in best) || $2 < best[$1] { best[$1] = $2 }
-    END {
-        printf "%d %d %d %.3f\n", density, items, bytes, (best[copies] - best[1]) * 1e9 / (copies - 1) / items
-    }' "$out/rounds_$1"
+# A line 'samples-per-clock items bytes nanoseconds', by the best of this moment and of all before it. The copies keep the
+# reading from becoming too short where there are few clocks in a wire.
+time_reading() { # time_reading SAMPLES-PER-CLOCK
+    local copies=$((($1 + 3) / 4)) items pairs
+    lay_record timed "$1" "$copies" && timed_reading "$out/record" $((1 + pairs)) >>"$out/seconds_$1" || return 1
+    awk -v density="$1" -v items="$items" -v bytes=$((pairs * 19)) '
+    FNR == 1 { file++ }
+    FNR == 1 || $1 < best[file] { best[file] = $1 }
+    END { printf "%d %d %d %.3f\n", density, items, bytes, (best[2] - best[1]) * 1e9 / items }
+    ' "$out/seconds_first" "$out/seconds_$1"
 }
 
-# The table by times, where sigrok can be had. Under an emulator, which slows run and sample alone, the ratios are only what is
-# left of them.
-time_sigrok() { # time_sigrok TIMES
-    local moment
-    if ! need sigrok-cli sigrok-cli; then
-        echo "sigrok-cli cannot be had, so there is no comparison with its times."
-        return 0
-    fi
-    rm -f "$out"/rounds_*
-    for moment in 1 2; do
-        at_each timed_item >"$out/sigrok" && take_times || return 1
-    done
+# Times sigrok once more.
+time_sigrok() {
+    timed_reading "$out/first" 1 >>"$out/seconds_first" && at_each time_reading >"$out/sigrok_times"
+}
+
+# The table by times. Under an emulator, which slows run and sample alone, the ratios are only what is left of them.
+tell_sigrok_times() {
     if [ -z "$RUN" ]; then
-        sigrok_table "nanoseconds (best of several)" "$1" <"$out/sigrok" || return 0
+        sigrok_table "nanoseconds (best of several)" "$out/times" <"$out/sigrok_times" || return 0
     else
         echo "sigrok runs natively on this machine, the archive under an emulator: no verdict by these times."
-        sigrok_table "nanoseconds (best of several)" "$1" <"$out/sigrok" | grep -v "^run at least"
+        sigrok_table "nanoseconds" "$out/times" <"$out/sigrok_times" | grep -v "^run at least"
     fi
 }

@@ -1,4 +1,4 @@
-#!/bin/sh
+#!/usr/bin/env bash
 # Runs the tests that look from outside: captures and step lists of the source documents, the plain reader on cut records and
 # beside sigrok, the converters, fuzzing, and our C under sanitizers. The last line counts.
 #
@@ -9,7 +9,7 @@ cd "$(dirname "$0")/.." || exit 2
 . tests/try.sh
 out=$(pwd)/target/outside
 rm -rf "$out"
-mkdir -p "$out/captures" "$out/wires" "$out/sigrok" "$out/inputs"
+mkdir -p "$out/captures" "$out/wires" "$out/sigrok" "$out/inputs" "$out/checked"
 export PYTHONDONTWRITEBYTECODE=1
 export ASAN_OPTIONS=detect_leaks=0 # a leak check takes seconds a process on some machines; it is on where memory is allocated
 
@@ -38,7 +38,10 @@ checked="-g -O1 -fsanitize=address,undefined -fno-sanitize-recover=undefined -DF
 second=tests/second/second.c
 plain=tests/second/plain.c
 
+
+# With the archive, for its machine, and with the second program, natively.
 build_all() {
+    local sources program
     for sources in "capture tests/player.c" sequences; do
         program=${sources%% *}
         $CC_ARCHIVE $strict $door -O2 -o "$out/$program" tests/$program.c ${sources#"$program"} $plain "$archive" || return 1
@@ -51,73 +54,87 @@ build_all() {
     $CC_ARCHIVE $strict -DFUZZ_ARCHIVE -O2 -o "$out/door_corpus" tests/fuzz/door_fuzz.c tests/fuzz/corpus_main.c \
         tests/fuzz/step.c $second "$out/step_archive.o" "$archive"
 }
-try build build_all
 
+# With the second program and sanitizers, natively; what several of them share is compiled once.
 build_checked() {
-    for sources in replay checks refusals sequences cut wirebytes "capture tests/player.c" "agree tests/traffic.c" \
-        "dense tests/traffic.c" "mangle tests/traffic.c"; do
-        program=${sources%% *}
-        gcc $strict $checked -o "$out/checked_$program" tests/$program.c ${sources#"$program"} $second $plain || return 1
+    local source program
+    for source in $second $plain tests/traffic.c tests/player.c; do
+        gcc $strict $checked -c -o "$out/checked/$(basename "$source" .c).o" "$source" || return 1
     done
-    gcc $strict $checked -o "$out/checked_corpus" tests/fuzz/door_fuzz.c tests/fuzz/corpus_main.c tests/fuzz/step.c $second
+    for program in replay checks refusals sequences cut wirebytes capture agree dense mangle; do
+        gcc $strict $checked -o "$out/checked_$program" tests/$program.c "$out"/checked/*.o || return 1
+    done
+    gcc $strict $checked -o "$out/checked_corpus" tests/fuzz/door_fuzz.c tests/fuzz/corpus_main.c tests/fuzz/step.c \
+        "$out/checked/second.o"
 }
-try build_checked build_checked
 
 # What needs the archive itself can be checked so where the archive runs natively.
 build_checked_archive() {
-    gcc $strict $checked -Iinclude -o "$out/checked_compare" tests/compare.c tests/round.c tests/pair.c tests/traffic.c $second \
-        "$archive" &&
-        gcc $strict $checked -Iinclude -o "$out/checked_bench" bench/bench.c $second "$archive" &&
+    gcc $strict $checked -Iinclude -o "$out/checked_compare" tests/compare.c tests/round.c tests/pair.c "$archive" \
+        "$out"/checked/traffic.o "$out"/checked/second.o &&
+        gcc $strict $checked -Iinclude -o "$out/checked_bench" bench/bench.c bench/capture.c "$out"/checked/second.o "$archive" &&
+        gcc $strict $checked $door -o "$out/checked_wire" bench/wire.c bench/capture.c "$archive" &&
         gcc $strict $checked -Iinclude -o "$out/checked_lanes" examples/lanes.c "$archive"
 }
-[ -n "$RUN" ] || try build_checked_archive build_checked_archive
+builds_checked() {
+    try build_checked build_checked
+    [ -n "$RUN" ] || try build_checked_archive build_checked_archive
+}
 
 # ---- Step lists and captures ----
 
-try sequences $RUN "$out/sequences"
-try second_sequences "$out/second_sequences"
-
-try captures python3 tests/captures.py "$out/captures"
-same_reports() { # same_reports COMMAND..: the report of each capture, which the command reads from standard input
+same_reports() ( # same_reports COMMAND..: the report of each capture, which the command reads from standard input
+    set -o pipefail
     count=0
     for capture in "$out"/captures/*.txt; do
-        "$@" <"$capture" >"$out/report" || return 1
-        diff "$out/report" "tests/captures/$(basename "$capture" .txt).report" || return 1
+        "$@" <"$capture" | diff - "tests/captures/$(basename "$capture" .txt).report" || return 1
         count=$((count + 1))
     done
     echo "captures $count"
-}
-try captures_report same_reports $run_report "$report"
-try captures_archive same_reports $RUN "$out/capture" report -
-try captures_second same_reports "$out/second_capture" report -
-
-same_wires() { # the wire record of each capture, by the archive and by the second program
+)
+same_wires() ( # the wire record of each capture, by the archive and by the second program
+    set -o pipefail
     for capture in "$out"/captures/*.txt; do
         wire="$out/wires/$(basename "$capture" .txt).bin"
         $RUN "$out/capture" wire "$capture" >"$wire" || return 1
         "$out/second_capture" wire "$capture" | cmp - "$wire" || return 1
     done
+)
+captures() {
+    try build build_all
+    try sequences $RUN "$out/sequences"
+    try second_sequences "$out/second_sequences"
+    try captures python3 tests/captures.py "$out/captures"
+    try captures_report same_reports $run_report "$report"
+    try captures_archive same_reports $RUN "$out/capture" report -
+    try captures_second same_reports "$out/second_capture" report -
+    try captures_wires same_wires
+    try cuts "$out/cut" "$out"/wires/*.bin
 }
-try captures_wires same_wires
-try cuts "$out/cut" "$out"/wires/*.bin
 
 # ---- sigrok ----
 
-try sigrok_whole python3 tests/sigrok_agree.py whole "$out/wirebytes" "$out"/wires/*.bin
-try sigrok_cuts python3 tests/sigrok_agree.py cuts "$out/wirebytes" "$out/sigrok" "$out/wires/brief_combined.bin"
-try sigrok_listed python3 tests/sigrok_agree.py listed "$out/wirebytes" "$out/sigrok"
-try sigrok_random python3 tests/sigrok_agree.py random "$out/wirebytes" "$out/sigrok" 300000
-dd if="$out/sigrok/random.bin" of="$out/sigrok/random_part.bin" bs=40000 count=1 2>/dev/null
-try cuts_random "$out/cut" "$out/sigrok/random_part.bin"
+sigrok_random() {
+    try sigrok_random python3 tests/sigrok_agree.py random "$out/wirebytes" "$out/sigrok" 300000
+    dd if="$out/sigrok/random.bin" of="$out/sigrok/random_part.bin" bs=40000 count=1 2>/dev/null
+    try cuts_random "$out/cut" "$out/sigrok/random_part.bin"
+}
+sigrok() {
+    try sigrok_whole python3 tests/sigrok_agree.py whole "$out/wirebytes" "$out"/wires/*.bin
+    try sigrok_cuts python3 tests/sigrok_agree.py cuts "$out/wirebytes" "$out/sigrok" "$out/wires/brief_combined.bin"
+    try sigrok_listed python3 tests/sigrok_agree.py listed "$out/wirebytes" "$out/sigrok"
+}
 
 # ---- Converters ----
 
-try convert python3 tests/convert_test.py "$out/convert" "$out"/wires/brief_*.bin "$out"/wires/bench_4.bin
+convert() {
+    try convert python3 tests/convert_test.py "$out/convert" "$out"/wires/brief_*.bin "$out"/wires/bench_4.bin
+}
 
 # ---- Fuzzing ----
 
-try fuzz_inputs python3 tests/fuzz/report_inputs.py "$out/inputs"
-same_as_report() { # what the report program prints for each input, beside the second program's report
+same_as_report() ( # what the report program prints for each input, beside the second program's report
+    set -o pipefail
     count=0
     for input in tests/fuzz/corpus/report/* "$out"/inputs/*; do
         $run_report "$report" <"$input" >"$out/report" || return 1
@@ -125,16 +142,17 @@ same_as_report() { # what the report program prints for each input, beside the s
         count=$((count + 1))
     done
     echo "inputs $count"
+)
+stored_inputs() {
+    try fuzz_inputs python3 tests/fuzz/report_inputs.py "$out/inputs"
+    try fuzz_report_corpus same_as_report
+    try fuzz_corpus $RUN "$out/door_corpus" 20000 tests/fuzz/corpus/door/*
+    try fuzz_corpus_checked env ASAN_OPTIONS=detect_leaks=1 "$out/checked_corpus" 2000 tests/fuzz/corpus/door/*
 }
-try fuzz_report_corpus same_as_report
-try fuzz_corpus $RUN "$out/door_corpus" 20000 tests/fuzz/corpus/door/*
-try fuzz_corpus_checked env ASAN_OPTIONS=detect_leaks=1 "$out/checked_corpus" 2000 tests/fuzz/corpus/door/*
 
 # The fuzzer itself runs natively: everywhere with the second program, on x86-64 with the archive and with the report program.
 fuzz() { # fuzz SECONDS NAME CORPUS SOURCES-AND-OPTIONS..
-    seconds=$1
-    target=$2
-    corpus=$3
+    local seconds=$1 target=$2 corpus=$3
     shift 3
     clang $strict $checked -fsanitize=fuzzer -o "$out/$target" $second "$@" || return 1
     mkdir -p "$out/$target.found"
@@ -146,39 +164,67 @@ told_apart() { # a program that prints its input back is no report program, and 
     if (cd "$out" && REPORT=$(command -v cat) ./fuzz_report -runs=1000 -seed=1) >"$out/told" 2>&1; then return 1; fi
     grep "^broken: " "$out/told"
 }
-try fuzz_second fuzz 5 fuzz_second tests/fuzz/corpus/door $fuzz_door
-if [ -z "$RUN" ]; then
-    try fuzz_archive fuzz 20 fuzz_archive tests/fuzz/corpus/door $fuzz_door -DFUZZ_ARCHIVE "$out/step_archive.o" "$archive"
+fuzz_second() {
+    try fuzz_second fuzz 4 fuzz_second tests/fuzz/corpus/door $fuzz_door
+}
+fuzz_archive() {
+    try fuzz_archive fuzz 14 fuzz_archive tests/fuzz/corpus/door $fuzz_door -DFUZZ_ARCHIVE "$out/step_archive.o" "$archive"
+}
+fuzz_report() {
     REPORT=$(realpath "$report")
     export REPORT
-    try fuzz_report fuzz 10 fuzz_report tests/fuzz/corpus/report $fuzz_report
+    try fuzz_report fuzz 7 fuzz_report tests/fuzz/corpus/report $fuzz_report
     try fuzz_report_spoiled told_apart
-fi
+}
 
 # ---- Sanitizers ----
 
-try checked_replay "$out/checked_replay" tests/vectors/base.txt
-try checked_agree "$out/checked_agree" 40000
-try checked_checks "$out/checked_checks"
-try checked_dense "$out/checked_dense" 200000
-try checked_sequences "$out/checked_sequences"
-try checked_captures same_reports "$out/checked_capture" report -
-try checked_cut "$out/checked_cut" "$out"/wires/brief_*.bin
-try checked_wirebytes "$out/checked_wirebytes" "$out/sigrok/random.bin"
-try checked_wirebytes_s "$out/checked_wirebytes" -s "$out/sigrok/random.bin"
-try checked_refusals "$out/checked_refusals"
-try checked_mangle "$out/checked_mangle" 100000
 bench_checked() { # each way of feeding, at some samples per clock, and the wire
+    local function
     for function in wherryoar_run second_run wherryoar_sample second_sample; do
         "$out/checked_bench" "$function" 20 1 || return 1
     done
-    "$out/checked_bench" counted_wire 4 "$out/bench_wire"
+    "$out/checked_wire" counted 4 "$out/bench_wire"
 }
+checked() {
+    try checked_replay "$out/checked_replay" tests/vectors/base.txt
+    try checked_agree "$out/checked_agree" 40000
+    try checked_checks "$out/checked_checks"
+    try checked_dense "$out/checked_dense" 200000
+    try checked_sequences "$out/checked_sequences"
+    try checked_captures same_reports "$out/checked_capture" report -
+    try checked_cut "$out/checked_cut" "$out"/wires/brief_*.bin
+    try checked_wirebytes "$out/checked_wirebytes" "$out/sigrok/random.bin"
+    try checked_wirebytes_s "$out/checked_wirebytes" -s "$out/sigrok/random.bin"
+    try checked_refusals "$out/checked_refusals"
+    try checked_mangle "$out/checked_mangle" 100000
+    if [ -z "$RUN" ]; then
+        try checked_compare "$out/checked_compare" 200000
+        try checked_bench bench_checked
+        try checked_lanes same_lanes "$out/checked_lanes"
+    fi
+}
+
+# ---- All of them: first what others read, then the longest first ----
+
+readings() {
+    captures
+    sigrok_random
+}
+beside readings readings
+beside builds_checked builds_checked
+settle
+
 if [ -z "$RUN" ]; then
-    try checked_compare "$out/checked_compare" 200000
-    try checked_bench bench_checked
-    try checked_lanes same_lanes "$out/checked_lanes"
+    beside fuzz_archive fuzz_archive
+    beside fuzz_report fuzz_report
 fi
+beside sigrok sigrok
+beside fuzz_second fuzz_second
+beside convert convert
+beside stored_inputs stored_inputs
+beside checked checked
+settle
 
 echo "$passed passed, $failed failed"
 [ "$failed" -eq 0 ]

@@ -1,5 +1,8 @@
 #!/usr/bin/env bash
 # Builds the archive and runs the C tests with it: on x86-64 as they are, elsewhere under an emulator. The last line counts.
+#
+#     run.sh          all of them
+#     run.sh quick    in seconds: fewer rounds, no bench, and the archive that there is if its crate has not changed since
 set -u
 cd "$(dirname "$0")/.." || exit 2
 . tools/machine.sh
@@ -9,65 +12,110 @@ mkdir -p "$out"
 strict="-Wall -Wextra -Wpedantic -Werror"
 steps=20000000 mutations=4000000 dense=20000000
 [ -z "$RUN" ] || steps=1000000 mutations=1000000 dense=3000000 # an emulator is slow
+case ${1:-} in
+"") quick= ;;
+quick) quick=yes steps=200000 mutations=100000 dense=200000 ;;
+*) echo "usage: run.sh [quick]" >&2; exit 2 ;;
+esac
 door="-Iinclude -Itests -Itests/second -DDOOR_PREFIX=wherryoar_ -DDOOR_HEADER=\"wherryoar.h\""
-
-try archive rt staticlib door
 archive=target/staticlib/libdoor.a
-[ "$failed" -eq 0 ] && export ARCHIVE_BUILT=1
+
+# What the tests call for is installed before any of them, since two installations at once are refused. What cannot be had fails
+# where it is used.
+for wanted in pkg-config python3 sigrok-cli $([ -z "$RUN" ] && echo valgrind || echo gcc mmdebstrap); do
+    need "$wanted" "$wanted"
+done
+[ -x target/bin/report ] || try report_program rt check report
+
+# ---- Tests that go through the door, once with the archive behind it and once with the second program ----
+
+build() { # build NAME SOURCES..
+    $CC_ARCHIVE -std=c99 -O2 $strict $door -o "$out/$1" "${@:2}" "$archive"
+}
+build_second() { # build_second NAME SOURCES..
+    $CC_ARCHIVE -std=c99 -O2 $strict -Itests -Itests/second -o "$out/second_$1" "${@:2}" "$out/second.o"
+}
+with_archive() { # with_archive NAME EXTRA-SOURCES ARGUMENTS..
+    try "build_$1" build "$1" "tests/$1.c" $2
+    try "$1" $RUN "$out/$1" "${@:3}"
+}
+with_second() {
+    try "build_second_$1" build_second "$1" "tests/$1.c" $2
+    try "second_$1" $RUN "$out/second_$1" "${@:3}"
+}
+beside_others() { # beside_others NAME ..: with the archive, as a group of its own
+    beside "with_$1" with_archive "$@"
+}
+through_the_door() { # through_the_door with_second|beside_others
+    "$1" mangle tests/traffic.c "$mutations"
+    "$1" checks ""
+    "$1" refusals ""
+    "$1" agree "tests/second/plain.c tests/traffic.c" 400000
+    "$1" replay "" tests/vectors/base.txt
+}
+
+# ---- Without the archive ----
 
 # The header by itself, as C99 and as C++11.
-echo '#include "wherryoar.h"' >"$out/header.c"
-try header_c99 $CC_ARCHIVE -std=c99 $strict -Iinclude -fsyntax-only "$out/header.c"
-try header_cxx11 $CXX_ARCHIVE -std=c++11 $strict -Iinclude -fsyntax-only -x c++ "$out/header.c"
+header() {
+    echo '#include "wherryoar.h"' >"$out/header.c"
+    try header_c99 $CC_ARCHIVE -std=c99 $strict -Iinclude -fsyntax-only "$out/header.c"
+    try header_cxx11 $CXX_ARCHIVE -std=c++11 $strict -Iinclude -fsyntax-only -x c++ "$out/header.c"
+}
 
-# Tests that go through the door, with the archive behind it and once more with the second program.
-build() { # build NAME SOURCES..
-    local name=$1
-    shift
-    $CC_ARCHIVE -std=c99 -O2 $strict $door -o "$out/$name" "$@" "$archive"
+second_program() {
+    try build_second $CC_ARCHIVE -std=c99 -O2 $strict -Itests/second -c -o "$out/second.o" tests/second/second.c
+    through_the_door with_second
 }
-build_second() {
-    local name=$1
-    shift
-    $CC_ARCHIVE -std=c99 -O2 $strict -Itests -Itests/second -o "$out/$name" "$@" tests/second/second.c
+
+# The report program on its stored cases, byte for byte; a case too long and dull to store is printed by a script.
+text_of() { # text_of NAME.in or NAME.out
+    if [ -f "tests/report/$1" ]; then cat "tests/report/$1"; else sh "tests/report/$1.sh"; fi
 }
-both() { # both NAME EXTRA-SOURCE ARGUMENTS..
-    local name=$1 extra=$2
-    shift 2
-    try "build_$name" build "$name" "tests/$name.c" $extra
-    try "$name" $RUN "$out/$name" "$@"
-    try "build_second_$name" build_second "second_$name" "tests/$name.c" $extra
-    try "second_$name" $RUN "$out/second_$name" "$@"
+report_case() { # report_case NAME
+    text_of "$1.in" >"$out/report.in" && text_of "$1.out" >"$out/report.expected" &&
+        $RUN_PROGRAM target/bin/report <"$out/report.in" >"$out/report.out" && cmp "$out/report.out" "$out/report.expected"
 }
-both replay "" tests/vectors/base.txt
-both agree "tests/second/plain.c tests/traffic.c" 400000
-both checks ""
-both refusals ""
-both mangle tests/traffic.c "$mutations"
+# The answer to the complaint is as it is stored, and as the document that gives it shows it.
+same_edges() {
+    examples/left_edge.py >"$out/left_edge.out" && diff "$out/left_edge.out" examples/left_edge.out &&
+        [ "$(grep -cxFf examples/left_edge.out docs/ANSWER.md)" -eq "$(wc -l <examples/left_edge.out)" ]
+}
+report_cases() {
+    local name
+    try left_edge same_edges
+    for name in $(ls tests/report | sed -n 's/\.in\(\.sh\)\{0,1\}$//p' | sort -u); do
+        try "report_$name" report_case "$name"
+    done
+}
+
+# ---- With the archive ----
 
 # The archive and the second program side by side. Then the test of that test: a bit turned over in the archive's answer (1),
 # state (2), buffer (3) or view (4) has to be told, in a few steps that are a case of the stored form.
 build_compare() {
     $CC_ARCHIVE -std=c99 -O2 $strict -Iinclude -Itests -Itests/second -o "$out/compare" \
-        tests/compare.c tests/round.c tests/pair.c tests/traffic.c tests/second/second.c "$archive"
+        tests/compare.c tests/round.c tests/pair.c tests/traffic.c "$out/second.o" "$archive"
 }
 spoiled() { # spoiled PLACE
     $RUN "$out/compare" 100000 1 "$1" >"$out/spoiled_$1.txt" || return 1
     $RUN "$out/second_replay" "$out/spoiled_$1.txt" && tail -n 1 "$out/spoiled_$1.txt"
 }
-try build_compare build_compare
-try compare $RUN "$out/compare" "$steps"
-for place in 1 2 3 4; do
-    try "spoiled_$place" spoiled "$place"
-done
+compared() {
+    local place
+    try build_compare build_compare
+    try compare $RUN "$out/compare" "$steps"
+    for place in 1 2 3 4; do
+        try "spoiled_$place" spoiled "$place"
+    done
+}
 
 # Runs in which a level stands for many samples; then runs spoilt on purpose, which has to be found.
-build_dense() {
-    build dense tests/dense.c tests/traffic.c tests/second/second.c
+dense_runs() {
+    try build_dense build dense tests/dense.c tests/traffic.c "$out/second.o"
+    try dense $RUN "$out/dense" "$dense"
+    try spoiled_dense $RUN "$out/dense" 200000 7 1
 }
-try build_dense build_dense
-try dense $RUN "$out/dense" "$dense"
-try spoiled_dense $RUN "$out/dense" 200000 7 1
 
 # What the header says of the archive as a whole: eight functions, nothing called, no memory of its own.
 alone() {
@@ -79,7 +127,6 @@ alone() {
     echo "functions $functions, other names it offers $others, names it calls $calls, variables $variables"
     [ "$functions $others $calls $variables" = "8 0 0 0" ]
 }
-try alone alone
 
 # Installed in a folder of its own, and from there the host in examples/.
 installed() {
@@ -92,25 +139,43 @@ installed() {
     rm -rf "$prefix"
     return $status
 }
-try installed installed
-try lanes same_lanes $RUN "$out/lanes"
 
-# The report program on its stored cases, byte for byte; a case too long and dull to store is printed by a script.
-text_of() { # text_of NAME.in or NAME.out
-    if [ -f "tests/report/$1" ]; then cat "tests/report/$1"; else sh "tests/report/$1.sh"; fi
+as_a_whole() {
+    try alone alone
+    try installed installed
+    try lanes same_lanes $RUN "$out/lanes"
+    try stack tools/stack.sh
 }
-report_case() { # report_case NAME
-    text_of "$1.in" >"$out/report.in" && text_of "$1.out" >"$out/report.expected" &&
-        $RUN_PROGRAM target/bin/report <"$out/report.in" >"$out/report.out" && cmp "$out/report.out" "$out/report.expected"
-}
-[ -x target/bin/report ] || try report_program rt check report
-for name in $(ls tests/report | sed -n 's/\.in\(\.sh\)\{0,1\}$//p' | sort -u); do
-    try "report_$name" report_case "$name"
-done
 
-# What the archive costs.
-try stack tools/stack.sh
-try bench bench/run.sh
+# ---- All of them: while the archive is built, those without it; what is timed, by itself ----
+
+# The archive, and the state of its crate that it was built from.
+make_archive() {
+    rt staticlib door && cp target/stamp/door "$out/built_from"
+}
+up_to_date() {
+    [ -n "$quick" ] && [ -f "$archive" ] && cmp -s target/stamp/door "$out/built_from"
+}
+whole() { # whole COMMAND..: not among the quick tests
+    [ -n "$quick" ] || "$@"
+}
+
+up_to_date || { rm -f "$archive" && beside archive try archive make_archive; }
+beside second_program second_program
+whole beside sigrok_counted try bench_sigrok bench/run.sh sigrok
+beside header header
+beside report_cases report_cases
+settle
+export ARCHIVE_BUILT=1 # nothing below builds it again; if it could not be built, all of it fails
+
+beside compared compared
+whole beside instructions try bench_instructions bench/run.sh instructions
+through_the_door beside_others
+beside dense_runs dense_runs
+beside as_a_whole as_a_whole
+settle
+
+whole try bench_times bench/run.sh times
 
 echo "$passed passed, $failed failed"
 [ "$failed" -eq 0 ]

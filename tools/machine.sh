@@ -19,9 +19,10 @@ x86_64)
 *)
     need x86_64-linux-gnu-gcc gcc-x86-64-linux-gnu && need x86_64-linux-gnu-g++ g++-x86-64-linux-gnu || exit 2
     need qemu-x86_64 qemu-user || exit 2
-    CC_ARCHIVE="x86_64-linux-gnu-gcc -static" CXX_ARCHIVE="x86_64-linux-gnu-g++ -static" RUN="qemu-x86_64"
+    CC_ARCHIVE="x86_64-linux-gnu-gcc -static" CXX_ARCHIVE="x86_64-linux-gnu-g++ -static"
     NM="x86_64-linux-gnu-nm" OBJDUMP="x86_64-linux-gnu-objdump"
-    RUN_PROGRAM="qemu-x86_64 -L /usr/x86_64-linux-gnu"
+    RUN="qemu-x86_64 -cpu qemu64" # a C library that finds more than the plain x86-64 uses it, which is slow to emulate
+    RUN_PROGRAM="$RUN -L /usr/x86_64-linux-gnu"
     ;;
 esac
 

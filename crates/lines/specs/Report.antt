@@ -7,15 +7,15 @@ use lib.Dec.{ltb}
 use lib.ListN.{length}
 use Rattle.refusals.specs.declared.Refusal.the-variants.{NoItem}
 use Rattle.refusals.specs.Numbers.{numberOf}
-use Rattle.lines.specs.declared.Item.{Item}
-use Rattle.lines.specs.declared.Meaning.{Meaning}
-use Rattle.lines.specs.declared.Meaning.the-variants.{Skipped, Taken, Foreign}
-use Rattle.lines.specs.declared.World.{World}
+use Rattle.input.specs.declared.Item.{Item}
+use Rattle.input.specs.declared.Meaning.{Meaning}
+use Rattle.input.specs.declared.Meaning.the-variants.{Skipped, Taken, Foreign}
+use Rattle.input.specs.Input.{Parsed, all, foreign, parse}
+use Rattle.watch.specs.declared.World.{World}
+use Rattle.watch.specs.Watch.{Scene, sceneAfter, worldAfresh, memoryAfresh}
+use Rattle.text.specs.Text.{said, decimal, lineOf, numbered}
+use Rattle.text.specs.Page.{Page, page, penned}
 use Rattle.lines.specs.declared.Run.{Run}
-use Rattle.lines.specs.Input.{Parsed, all, foreign, parse}
-use Rattle.lines.specs.Watch.{Scene, sceneAfter, worldAfresh, memoryAfresh}
-use Rattle.lines.specs.Text.{said, decimal, lineOf, numbered}
-use Rattle.lines.specs.Page.{Page, page, penned}
 
 -- The lines of the items, numbered from `item` on; the pointer is that after the item.
 unfoldable pub linesFrom : World → List ℕ → ℕ → List Item → List ℕ

@@ -29,15 +29,16 @@ use Rattle.reader.specs.declared.Heard.{Heard}
 use Rattle.reader.specs.declared.Heard.the-variants.{Silence, Started, Stopped, Byte}
 use Rattle.reader.specs.declared.Reader.{Reader}
 use Rattle.reader.specs.Reader.{withinFall, fallPlace, risePlace, fallHeard, heardAt, readerOf, readerAfter}
-use Rattle.lines.specs.declared.Item.{Item}
-use Rattle.lines.specs.declared.Item.the-variants.{Sample, Call}
-use Rattle.lines.specs.declared.World.{World}
-use Rattle.lines.specs.Input.{Parsed, all, foreign, parse}
-use Rattle.lines.specs.Watch.{Scene, sceneAfter, worldAfresh, memoryAfresh}
-use Rattle.lines.specs.Text.{said, decimal, lineOf, numbered}
-use Rattle.lines.specs.Page.{page, penned}
+use Rattle.input.specs.declared.Item.{Item}
+use Rattle.input.specs.declared.Item.the-variants.{Sample, Call}
+use Rattle.input.specs.Laws.{found, found-short}
+use Rattle.input.specs.Input.{Parsed, all, foreign, parse}
+use Rattle.watch.specs.declared.World.{World}
+use Rattle.watch.specs.Watch.{Scene, sceneAfter, worldAfresh, memoryAfresh}
+use Rattle.text.specs.Text.{said, decimal, lineOf, numbered}
+use Rattle.text.specs.Page.{page, penned}
+use Rattle.text.specs.Laws.{penned-at, line-length, numbered-room, digits-2, digits-5}
 use Rattle.lines.specs.Report.{linesFrom, header, parsedReport, reportOf}
-use Rattle.lines.specs.Laws.{penned-at, line-length, digits-2, digits-5, found, found-short}
 
 -- ---- the pointer stays below 32
 record Small (h : Handler) : Type 0 where
@@ -164,12 +165,6 @@ lines-room w memory item (x ∷ xs) k m h =
     let a = length-append (lineOf item (s .watched .heard) pointer) (linesFrom (s .watched .world) (s .memory) (item + 1) xs) in
     omega (arith, p .1, line-room item pointer (omega arith) (j .inside) (s .watched .heard))
 
-numbered-length : (words : List ℕ) (n : ℕ) → n < 100000 → length (numbered words n) ≤ length words + 6
-numbered-length words n h =
-    let a = length-append words (decimal n ++ said "\n") in
-    let b = length-append (decimal n) (said "\n") in
-    omega (arith, digits-5 n h)
-
 parsed-room : (p : Parsed) → found p ≤ 60000 → length (parsedReport p) ≤ 480046
 unfolding decimal
 parsed-room (all items) h =
@@ -177,8 +172,8 @@ parsed-room (all items) h =
     let a = length-append header (lines ++ numbered (said "end ") (length items)) in
     let b = length-append lines (numbered (said "end ") (length items)) in
     let k = lines-room worldAfresh memoryAfresh 0 items (record { long = refl; inside = omega arith }) unmarked (omega arith) in
-    omega (arith, numbered-length (said "end ") (length items) (omega arith))
-parsed-room (foreign n) h = omega (arith, numbered-length (said "refused 4 at ") n (omega arith))
+    omega (arith, numbered-room (said "end ") (length items) (omega arith))
+parsed-room (foreign n) h = omega (arith, numbered-room (said "refused 4 at ") n (omega arith))
 
 report-if : (input : List ℕ) (t : Bool) → ltb 60000 (length input) ≡ t
     → length (cond t (said "too long\n") (parsedReport (parse input))) ≤ 480046

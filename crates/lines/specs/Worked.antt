@@ -4,12 +4,12 @@ use Prim.Native.Nat.{ℕ}
 use mathlib.Core.Path.{_≡_, refl}
 use mathlib.Core.List.{List, []}
 use Rattle.reader.specs.declared.Heard.the-variants.{Silence}
-use Rattle.lines.specs.declared.Item.{Item}
-use Rattle.lines.specs.declared.Item.the-variants.{Sample, Call}
-use Rattle.lines.specs.declared.World.{World}
-use Rattle.lines.specs.Input.{parse}
-use Rattle.lines.specs.Watch.{sceneAfter}
-use Rattle.lines.specs.Text.{said, decimal}
+use Rattle.input.specs.declared.Item.{Item}
+use Rattle.input.specs.declared.Item.the-variants.{Sample, Call}
+use Rattle.input.specs.Input.{parse}
+use Rattle.watch.specs.declared.World.{World}
+use Rattle.watch.specs.Watch.{sceneAfter}
+use Rattle.text.specs.Text.{said, decimal}
 use Rattle.lines.specs.Report.{linesFrom, reportOf}
 
 pub worked :

@@ -1,10 +1,16 @@
--- `lines::put_events` meets its contract.
+-- `lines::put_events` meets its contract: the set-up gives the state that the report begins with.
 -- Assumes nothing.
 use borrow.Author.Needs.{needs}
 use mathlib.Core.Path.{_∙_}
 use Rattle.lines.specs.Laws.{begun}
 use Rattle.lines.proofs.put_events.Statement.{statement}
 use Rattle.lines.proofs.put_events.Tie as tie
+
+set-up-as-asked : tie.Need-returns
+set-up-as-asked c =
+    let l = c .before .before in
+    let s = l .before .before .before in
+    (l .put-lines .ensures .0 ∙ begun (s .before .before .set-up .ensures) (s .state .given .1) _ _, l .put-lines .ensures .1)
 
 pub put-events-spec : {M : Type 1} → statement M
 put-events-spec =
@@ -15,5 +21,5 @@ put-events-spec =
     (λ c κs. search needs)
     (λ c. search needs)
     (λ c. search needs)
-    (λ c. (c .before .before .put-lines .ensures .0 ∙ begun (c .before .before .before .before .before .before .before .set-up .ensures) (c .before .before .before .before .before .state .given .1) _ _, c .before .before .put-lines .ensures .1))
+    set-up-as-asked
     (λ c. search needs))

@@ -5,7 +5,7 @@ use mathlib.Core.Path.{_≡_, refl, sym, _∙_}
 use mathlib.Core.Bool.{true}
 use native.Mathlib.Omega.{arith}
 use lib.ListN.{length, drop}
-use Rattle.lines.specs.Input.{parse, clean, itemsIn}
+use Rattle.input.specs.Input.{parse, clean, itemsIn}
 use Rattle.lines.specs.Report.{progress}
 use Rattle.lines.specs.Laws.{finished, play-more, play-end}
 use Rattle.lines.proofs.put_lines.Statement.{statement}

@@ -1,0 +1,66 @@
+-- The report's input (01, "Report program"): what each byte is, and the items that the bytes give.
+-- Assumes nothing.
+use Prim.Native.Nat.{ℕ, suc, _-_}
+use Prim.Native.Char.{code}
+use mathlib.Core.Bool.{Bool, true, false, cond, _||_}
+use mathlib.Core.List.{List, [], _∷_}
+use lib.Dec.{eqb, ltb}
+use lib.ListN.{length}
+use Rattle.wire.specs.Wire.{sclOf, sdaOf}
+use Rattle.input.specs.declared.Item.{Item}
+use Rattle.input.specs.declared.Item.the-variants.{Sample, Call}
+use Rattle.input.specs.declared.Meaning.{Meaning}
+use Rattle.input.specs.declared.Meaning.the-variants.{Skipped, Taken, Foreign}
+use Rattle.input.specs.declared.Checked.{Checked}
+use Rattle.input.specs.declared.Checked.the-variants.{Whole, Cut}
+
+-- Digits 0 to 3 are samples, `h` is a handler call, spaces and newlines are skipped; anything else is foreign.
+abbrev pub meaningOf : ℕ → Meaning
+meaningOf byte =
+    cond (eqb byte (code " ") || eqb byte (code "\n")) Skipped
+    (cond (eqb byte (code "h")) (Taken Call)
+    (cond (ltb byte (code "0") || ltb (code "3") byte) Foreign
+    (Taken (Sample (sclOf (byte - code "0")) (sdaOf (byte - code "0"))))))
+
+-- All the items, or how many come before the first foreign byte.
+pub data Parsed : Type 0 where
+  all : List Item → Parsed
+  foreign : ℕ → Parsed
+
+-- One byte in front of a parsed text.
+abbrev pub before : Meaning → Parsed → Parsed
+before Skipped p = p
+before (Taken item) (all items) = all (item ∷ items)
+before (Taken item) (foreign n) = foreign (suc n)
+before Foreign p = foreign 0
+
+unfoldable pub parse : List ℕ → Parsed
+parse [] = all []
+parse (byte ∷ bytes) = before (meaningOf byte) (parse bytes)
+
+-- What is known of the input before anything is played: the number of its items, or of those before a foreign byte.
+abbrev pub checked : Parsed → Checked
+checked (all items) = Whole (length items)
+checked (foreign n) = Cut n
+
+abbrev pub checkedOf : List ℕ → Checked
+checkedOf input = checked (parse input)
+
+abbrev pub isForeign : Meaning → Bool
+isForeign Skipped = false
+isForeign (Taken item) = false
+isForeign Foreign = true
+
+abbrev pub itemCount : Meaning → ℕ
+itemCount Skipped = 0
+itemCount (Taken item) = 1
+itemCount Foreign = 0
+
+-- Without a foreign byte; and the items then.
+abbrev pub clean : Parsed → Bool
+clean (all items) = true
+clean (foreign n) = false
+
+abbrev pub itemsIn : Parsed → List Item
+itemsIn (all items) = items
+itemsIn (foreign n) = []

@@ -1,0 +1,76 @@
+// The report's input: what each byte of it is, and how many items it has.
+ghost use mathlib.Core.Path.{_≡_};
+ghost use Rattle.input.specs.Input.{meaningOf, isForeign, itemCount, checkedOf};
+
+// What everybody else drives, SCL and SDA; or a handler call.
+pub enum Item {
+    Sample(bool, bool),
+    Call,
+}
+
+// What a byte of the input is: passed over, an item, or neither.
+pub enum Meaning {
+    Skipped,
+    Taken(Item),
+    Foreign,
+}
+
+// How many items the input has: all of it, or up to its first foreign byte.
+pub enum Checked {
+    Whole(usize),
+    Cut(usize),
+}
+
+pub fn meaning_of(byte: u8) -> Meaning
+    ensures { λ r. ⌜ r ≡ meaningOf byte ⌝ }
+{
+    if (byte == b' ') | (byte == b'\n') {
+        return Meaning::Skipped;
+    }
+    if byte == b'h' {
+        return Meaning::Taken(Item::Call);
+    }
+    if (byte < b'0') | (b'3' < byte) {
+        return Meaning::Foreign;
+    }
+    let level = byte - b'0';
+    Meaning::Taken(Item::Sample(level / 2 % 2 == 1, level / 1 % 2 == 1))
+}
+
+fn is_foreign(meaning: Meaning) -> bool
+    ensures { λ r. ⌜ r ≡ isForeign meaning ⌝ }
+{
+    match meaning {
+        Meaning::Skipped => false,
+        Meaning::Taken(_) => false,
+        Meaning::Foreign => true,
+    }
+}
+
+// 1 for an item, else 0.
+fn item_count(meaning: Meaning) -> usize
+    ensures { λ r. ⌜ r ≡ itemCount meaning ⌝ }
+{
+    match meaning {
+        Meaning::Skipped => 0,
+        Meaning::Taken(_) => 1,
+        Meaning::Foreign => 0,
+    }
+}
+
+// The items are counted, up to the first foreign byte.
+pub fn check(input: &[u8]) -> Checked
+    ensures { λ r. ⌜ r ≡ checkedOf (now (input .entry)) ⌝ }
+{
+    let mut items = 0;
+    let mut i = 0;
+    while i < input.len() {
+        let here = meaning_of(input[i]);
+        if is_foreign(here) {
+            return Checked::Cut(items);
+        }
+        items += item_count(here);
+        i += 1;
+    }
+    Checked::Whole(items)
+}
