@@ -7,7 +7,8 @@
    - Every call ends, and touches only what it is lent.
    - A refused call answers the number of the first refusal that applies, in the order 6, 1, 2, 3, 5, 4, 7, and leaves
      state and buffer exactly as they were.
-   - State, buffer, trace and record must not overlap. A pointer may be null only where its length is 0.
+   - What no proof can cover is yours to keep: state, buffer, trace and record must not overlap; a length must not be longer
+     than the memory behind its pointer; a pointer may be null only where its length is 0.
    - The library keeps no state of its own, allocates nothing and calls nothing: calls on different states may run on
      different threads at once; two calls on one state or one buffer may not.
    - An image is good for this version of the library. A version whose images differ gives them another length, so that an
@@ -94,19 +95,20 @@ typedef struct {
    Refuses with 6 (state_length is not 48), 5 (n is not 1 to 256). After a refusal the bytes are as they were. */
 wherryoar_answer wherryoar_setup(uint8_t *state, size_t state_length, uint8_t add, uint64_t n);
 
-/* Reads a register; value is its byte. A read of BUF clears BF, other reads change nothing.
+/* Reads a register; value is its byte. A read of BUF clears BF, other reads change nothing. The number is 32 bits wide, so
+   that 256 is refused and not taken for 0; so is a sample's level.
    Refuses with 6 (no state's image), 1 (number above 7). After a refusal the state is as it was. */
-wherryoar_answer wherryoar_read(uint8_t *state, size_t state_length, uint8_t number);
+wherryoar_answer wherryoar_read(uint8_t *state, size_t state_length, uint32_t number);
 
 /* Writes a register. WCOL, SSPOV and SSPIF can only be cleared; ACKSTAT and ACKTIM ignore writes; STAT takes SMP and CKE;
    BUF takes the byte while the clock is held for sending and else sets WCOL; CKP 1 in CON1 ends a hold.
    Refuses with 6 (no state's image), 1 (number above 7), 2 (CON2 bits 4..1 or BOEN set), 3 (CON1 with SSPEN 1 and another
    SSPM than 0110 and 1110). After a refusal the state is as it was. */
-wherryoar_answer wherryoar_write(uint8_t *state, size_t state_length, uint8_t number, uint8_t value);
+wherryoar_answer wherryoar_write(uint8_t *state, size_t state_length, uint32_t number, uint8_t value);
 
 /* Feeds one sample: what everybody else drives, 2 * SCL + SDA. The wire is low where the sample is low or the module pulls.
    Refuses with 6 (no state's image), 4 (level above 3). After a refusal the state is as it was. */
-wherryoar_answer wherryoar_sample(uint8_t *state, size_t state_length, uint8_t level);
+wherryoar_answer wherryoar_sample(uint8_t *state, size_t state_length, uint32_t level);
 
 /* Calls the handler once over the n bytes of buffer from start; the bytes outside them never change.
    Refuses with 6 (no state's image), 5 (the window is not inside the buffer, or n is not the setup's). After a refusal state

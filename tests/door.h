@@ -26,9 +26,9 @@ typedef DOOR(view) door_view;
 /* The eight functions. */
 typedef struct {
     door_answer (*setup)(uint8_t *state, size_t state_length, uint8_t add, uint64_t n);
-    door_answer (*read)(uint8_t *state, size_t state_length, uint8_t number);
-    door_answer (*write)(uint8_t *state, size_t state_length, uint8_t number, uint8_t value);
-    door_answer (*sample)(uint8_t *state, size_t state_length, uint8_t level);
+    door_answer (*read)(uint8_t *state, size_t state_length, uint32_t number);
+    door_answer (*write)(uint8_t *state, size_t state_length, uint32_t number, uint8_t value);
+    door_answer (*sample)(uint8_t *state, size_t state_length, uint32_t level);
     door_answer (*call)(uint8_t *state, size_t state_length,
                         uint8_t *buffer, size_t buffer_length, uint64_t start, uint64_t n);
     door_answer (*run)(uint8_t *state, size_t state_length,

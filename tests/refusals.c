@@ -276,28 +276,50 @@ static unsigned write_refusal(unsigned number, unsigned value)
     return number == CON1 && (value & 0x20) && mode != 0x06 && mode != 0x0E ? 3 : 0;
 }
 
-/* Every register number with every value, and every level, on every state. */
+/* A register number, or a level, by itself: read, and sampled. */
+static void number_alone(const uint8_t *state, uint32_t number)
+{
+    lay(state);
+    expect(number > FLAG ? refused(door.read(image, DOOR_IMAGE, number), 1, 0) : done(door.read(image, DOOR_IMAGE, number)),
+           "read", number);
+    lay(state);
+    expect(number > 3 ? refused(door.sample(image, DOOR_IMAGE, number), 4, 0) : done(door.sample(image, DOOR_IMAGE, number)),
+           "sample", number);
+}
+
+/* A register number with every value. */
+static void number_written(const uint8_t *state, uint32_t number)
+{
+    unsigned value, wanted;
+
+    for (value = 0; value < 256; value++) {
+        lay(state);
+        wanted = write_refusal(number, value);
+        expect(wanted ? refused(door.write(image, DOOR_IMAGE, number, (uint8_t)value), wanted, 0)
+                      : done(door.write(image, DOOR_IMAGE, number, (uint8_t)value)),
+               "write", (unsigned long)number * 256 + value);
+    }
+}
+
+/* Numbers and levels on every state: all of a byte, and those that a byte would misread, whose low byte is a good one. */
 static void single_calls(void)
 {
-    unsigned number, value, wanted;
-    int i;
+    uint32_t number, low;
+    int i, place;
 
-    for (i = 0; i < STATES; i++)
+    for (i = 0; i < STATES; i++) {
         for (number = 0; number < 256; number++) {
-            for (value = 0; value < 256; value++) {
-                lay(states[i]);
-                wanted = write_refusal(number, value);
-                expect(wanted ? refused(door.write(image, DOOR_IMAGE, (uint8_t)number, (uint8_t)value), wanted, 0)
-                              : done(door.write(image, DOOR_IMAGE, (uint8_t)number, (uint8_t)value)),
-                       "write", number * 256 + value);
-            }
-            lay(states[i]);
-            expect(number > FLAG ? refused(door.read(image, DOOR_IMAGE, (uint8_t)number), 1, 0)
-                                 : done(door.read(image, DOOR_IMAGE, (uint8_t)number)), "read", number);
-            lay(states[i]);
-            expect(number > 3 ? refused(door.sample(image, DOOR_IMAGE, (uint8_t)number), 4, 0)
-                              : done(door.sample(image, DOOR_IMAGE, (uint8_t)number)), "sample", number);
+            number_written(states[i], number);
+            number_alone(states[i], number);
         }
+        for (place = 8; place < 32; place++)
+            for (low = 0; low < 8; low++) {
+                number = (uint32_t)1 << place | low;
+                number_alone(states[i], number);
+                lay(states[i]);
+                expect(refused(door.write(image, DOOR_IMAGE, number, 0), 1, 0), "write", number);
+            }
+    }
 }
 
 /* ---- Refusal 5: windows at every edge ---- */

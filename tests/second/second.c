@@ -632,7 +632,7 @@ second_answer second_setup(uint8_t *state, size_t state_length, uint8_t add, uin
 }
 
 /* A register read. */
-second_answer second_read(uint8_t *state, size_t state_length, uint8_t number)
+second_answer second_read(uint8_t *state, size_t state_length, uint32_t number)
 {
     module m;
     uint8_t value;
@@ -641,13 +641,13 @@ second_answer second_read(uint8_t *state, size_t state_length, uint8_t number)
         return answer(NO_STATE, 0, 0);
     if (number >= REGISTERS)
         return answer(NO_REGISTER, 0, 0);
-    value = read_register(&m, number);
+    value = read_register(&m, (uint8_t)number);
     encode(&m, state);
     return answer(DONE, value, 0);
 }
 
 /* Why a write is refused, or DONE. */
-static int write_refusal(uint8_t number, uint8_t value)
+static int write_refusal(uint32_t number, uint8_t value)
 {
     int mode = value & SSPM;
 
@@ -661,7 +661,7 @@ static int write_refusal(uint8_t number, uint8_t value)
 }
 
 /* A register write. */
-second_answer second_write(uint8_t *state, size_t state_length, uint8_t number, uint8_t value)
+second_answer second_write(uint8_t *state, size_t state_length, uint32_t number, uint8_t value)
 {
     module m;
     int refusal;
@@ -671,13 +671,13 @@ second_answer second_write(uint8_t *state, size_t state_length, uint8_t number, 
     refusal = write_refusal(number, value);
     if (refusal != DONE)
         return answer(refusal, 0, 0);
-    write_register(&m, number, value);
+    write_register(&m, (uint8_t)number, value);
     encode(&m, state);
     return answer(DONE, 0, 0);
 }
 
 /* One sample. */
-second_answer second_sample(uint8_t *state, size_t state_length, uint8_t level)
+second_answer second_sample(uint8_t *state, size_t state_length, uint32_t level)
 {
     module m;
 
@@ -685,7 +685,7 @@ second_answer second_sample(uint8_t *state, size_t state_length, uint8_t level)
         return answer(NO_STATE, 0, 0);
     if (level > HIGHEST_LEVEL)
         return answer(NO_SUCH_LEVEL, 0, 0);
-    sample(&m, level);
+    sample(&m, (uint8_t)level);
     encode(&m, state);
     return answer(DONE, 0, 0);
 }

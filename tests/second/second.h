@@ -39,9 +39,9 @@ typedef struct {
 } second_view;
 
 second_answer second_setup(uint8_t *state, size_t state_length, uint8_t add, uint64_t n);
-second_answer second_read(uint8_t *state, size_t state_length, uint8_t number);
-second_answer second_write(uint8_t *state, size_t state_length, uint8_t number, uint8_t value);
-second_answer second_sample(uint8_t *state, size_t state_length, uint8_t level);
+second_answer second_read(uint8_t *state, size_t state_length, uint32_t number);
+second_answer second_write(uint8_t *state, size_t state_length, uint32_t number, uint8_t value);
+second_answer second_sample(uint8_t *state, size_t state_length, uint32_t level);
 second_answer second_call(uint8_t *state, size_t state_length,
                           uint8_t *buffer, size_t buffer_length, uint64_t start, uint64_t n);
 second_answer second_run(uint8_t *state, size_t state_length,

@@ -74,7 +74,7 @@ pub extern "C" fn wherryoar_setup(state: &mut [u8], add: u8, n: u64) -> Answer
 
 // Reads a register. Refuses with 6, 1.
 #[no_mangle]
-pub extern "C" fn wherryoar_read(state: &mut [u8], number: u8) -> Answer
+pub extern "C" fn wherryoar_read(state: &mut [u8], number: u32) -> Answer
     ensures { λ r. ⌜ outcome r (now (state .exit)) ≡ doorRead (now (state .entry)) number ⌝ }
 {
     match image::decode(state) {
@@ -91,7 +91,7 @@ pub extern "C" fn wherryoar_read(state: &mut [u8], number: u8) -> Answer
 
 // Writes a register. Refuses with 6, 1, 2, 3.
 #[no_mangle]
-pub extern "C" fn wherryoar_write(state: &mut [u8], number: u8, value: u8) -> Answer
+pub extern "C" fn wherryoar_write(state: &mut [u8], number: u32, value: u8) -> Answer
     ensures { λ r. ⌜ outcome r (now (state .exit)) ≡ doorWrite (now (state .entry)) number value ⌝ }
 {
     match image::decode(state) {
@@ -108,7 +108,7 @@ pub extern "C" fn wherryoar_write(state: &mut [u8], number: u8, value: u8) -> An
 
 // Feeds one sample. Refuses with 6, 4 (a level above 3).
 #[no_mangle]
-pub extern "C" fn wherryoar_sample(state: &mut [u8], level: u8) -> Answer
+pub extern "C" fn wherryoar_sample(state: &mut [u8], level: u32) -> Answer
     ensures { λ r. ⌜ outcome r (now (state .exit)) ≡ doorSample (now (state .entry)) level ⌝ }
 {
     match image::decode(state) {
@@ -117,7 +117,7 @@ pub extern "C" fn wherryoar_sample(state: &mut [u8], level: u8) -> Answer
             if level > 3 {
                 return refuse(Refusal::NoItem, 0);
             }
-            let next = trace::sample(s, level);
+            let next = trace::sample(s, level as u8);
             settle(state, Verdict::Done(0), 0, next)
         }
     }

@@ -8,9 +8,9 @@ pub enum Item {
     // SCL, SDA
     Sample(bool, bool),
     // register number
-    Read(u8),
+    Read(u32),
     // register number, value
-    Write(u8, u8),
+    Write(u32, u8),
     Nothing,
 }
 
@@ -18,7 +18,7 @@ pub enum Item {
 fn item_of(code: u32) -> Item
     ensures { λ r. ⌜ r ≡ itemOf code ⌝ }
 {
-    let number = (code / 256 % 256) as u8;
+    let number = code / 256 % 256;
     let value = (code % 256) as u8;
     if code < 4 {
         Item::Sample(value / 2 % 2 == 1, value / 1 % 2 == 1)

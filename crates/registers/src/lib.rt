@@ -26,7 +26,7 @@ pub struct Access {
     pub mssp: Module,
 }
 
-pub fn register_of(number: u8) -> Register
+pub fn register_of(number: u32) -> Register
     ensures { λ r. ⌜ r ≡ registerOf number ⌝ }
 {
     if number == 0 {
@@ -101,7 +101,7 @@ fn after_read(m: Module, register: Register) -> Module
     }
 }
 
-pub fn read(m: Module, number: u8) -> Access
+pub fn read(m: Module, number: u32) -> Access
     ensures { λ r. ⌜ r ≡ readOf m number ⌝ }
 {
     let register = register_of(number);

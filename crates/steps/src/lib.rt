@@ -11,9 +11,9 @@ pub enum Item {
     // a handler call
     Call,
     // register number
-    Read(u8),
+    Read(u32),
     // register number, value
-    Write(u8, u8),
+    Write(u32, u8),
     // a number that stands for no item
     Nothing,
 }

@@ -145,7 +145,7 @@ fn take(m: Module, register: Register, v: u8) -> Module
 }
 
 // A write. A refused one changes nothing.
-pub fn write(m: Module, number: u8, v: u8) -> Access
+pub fn write(m: Module, number: u32, v: u8) -> Access
     ensures { λ r. ⌜ r ≡ writeOf m number v ⌝ }
 {
     let register = registers::register_of(number);
