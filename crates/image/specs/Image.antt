@@ -1,10 +1,11 @@
 -- The image of a state (01, "Calls, refusals and their order"): exactly 48 bytes, each state one image. The layout is ours.
 -- Assumes nothing.
 use Prim.Native.Nat.{ℕ, _-_}
-use mathlib.Core.Bool.{Bool, true, false, cond, _&&_}
-use mathlib.Core.List.{List, [], _∷_, _++_}
+use mathlib.Core.Bool.{Bool, cond, _&&_}
+use mathlib.Core.List.{List, _++_}
 use lib.Dec.{eqb}
 use lib.ListN.{length, drop, replicate}
+use Rattle.codec.specs.Codec.{isImage}
 use Rattle.mssp.specs.Valid.{valid}
 use Rattle.firmware.specs.declared.State.{State}
 use Rattle.firmware.specs.Handler.{stateOf}
@@ -32,15 +33,9 @@ encodeOf s = padded imageLength (modulePart (s .mssp) ++ handlerPart (s .handler
 unfoldable pub parseOf : List ℕ → State
 parseOf b = stateOf (moduleFrom b) (handlerFrom (drop moduleLength b))
 
-abbrev pub sameBytes : List ℕ → List ℕ → Bool
-sameBytes [] [] = true
-sameBytes [] (y ∷ ys) = false
-sameBytes (x ∷ xs) [] = false
-sameBytes (x ∷ xs) (y ∷ ys) = eqb x y && sameBytes xs ys
-
 -- Bytes are an image if they are just the image of the state that they name, and there is such a state.
 unfoldable pub decodeOf : List ℕ → Decoded
-decodeOf b = cond (sameBytes (encodeOf (parseOf b)) b && validState (parseOf b)) (Valid (parseOf b)) NoImage
+decodeOf b = cond (isImage encodeOf parseOf validState b) (Valid (parseOf b)) NoImage
 
 -- An image is written only over bytes of its own length; others stay.
 abbrev pub saveOf : State → List ℕ → List ℕ

@@ -11,6 +11,7 @@ use lib.Seq.{take-length, take-all, drop-cons}
 use native.Mathlib.Omega.{arith}
 use native.Mathlib.Numerals.{add-one}
 use borrow.Author.Tests.{eq-eqb}
+use Rattle.codec.specs.Codec.{sameBytes}
 use Rattle.mssp.specs.declared.Module.{Module}
 use Rattle.firmware.specs.declared.Handler.{Handler}
 use Rattle.firmware.specs.declared.State.{State}
@@ -18,7 +19,7 @@ use Rattle.firmware.specs.Handler.{stateOf}
 use Rattle.module_image.specs.ModulePart.{moduleLength, modulePart, moduleFrom}
 use Rattle.module_image.specs.Laws.{mark-back, module-back}
 use Rattle.image.specs.HandlerPart.{low, high, word, handlerPart, handlerFrom}
-use Rattle.image.specs.Image.{imageLength, validState, encodeOf, parseOf, sameBytes, decodeOf}
+use Rattle.image.specs.Image.{imageLength, validState, encodeOf, parseOf, decodeOf}
 use Rattle.image.specs.declared.Decoded.the-variants.{Valid, NoImage}
 
 -- ---- a state comes back from its image
@@ -38,24 +39,7 @@ pub encode-length : (s : State) → length (encodeOf s) ≡ imageLength
 unfolding encodeOf
 encode-length s = refl
 
--- ---- equal bytes
-pub same-refl : (xs : List ℕ) → sameBytes xs xs ≡ true
-same-refl [] = refl
-same-refl (x ∷ xs) = simp (eq-eqb x x refl, same-refl xs)
-
-pub same-equal : (xs ys : List ℕ) → T (sameBytes xs ys) → xs ≡ ys
-same-equal [] [] t = refl
-same-equal [] (y ∷ ys) t = absurd t
-same-equal (x ∷ xs) [] t = absurd t
-same-equal (x ∷ xs) (y ∷ ys) t =
-    let both = and-yes (eqb x y) (sameBytes xs ys) t in
-    cc (eqb→eq x y (both .0), same-equal xs ys (both .1))
-
 -- ---- what the code's steps come to
-pub holds : (t : Bool) → T t → t ≡ true
-holds true h = refl
-holds false h = absurd h
-
 -- The parts copied one after the other over zeros.
 pub joined :
     (s : State) {first second once twice : List ℕ} → first ≡ modulePart (s .mssp) → second ≡ handlerPart (s .handler)

@@ -11,16 +11,18 @@ use mir.Facts.{and-yes}
 use lib.Dec.{T}
 use lib.ListN.{length}
 use borrow.Author.Tests.{eq-eqb}
+use Rattle.codec.specs.Codec.{isImage}
+use Rattle.codec.specs.Laws.{encoded-is, image-names, encode-apart}
 use Rattle.firmware.specs.declared.State.{State}
 use Rattle.image.specs.declared.Decoded.{Decoded}
 use Rattle.image.specs.declared.Decoded.the-variants.{Valid, NoImage}
-use Rattle.image.specs.Image.{imageLength, validState, encodeOf, parseOf, sameBytes, decodeOf, saveOf}
-use Rattle.image.specs.Laws.{parse-encode, encode-length, same-refl, same-equal, holds}
+use Rattle.image.specs.Image.{imageLength, validState, encodeOf, parseOf, decodeOf, saveOf}
+use Rattle.image.specs.Laws.{parse-encode, encode-length}
 
 -- Every valid state comes back from its image.
 pub decode-encode : (s : State) → T (validState s) → decodeOf (encodeOf s) ≡ Valid s
 unfolding decodeOf
-decode-encode s v = rw (parse-encode s, same-refl, holds (validState s) v)
+decode-encode s v = rw (encoded-is encodeOf parseOf validState parse-encode s v, parse-encode s)
 
 picked : {s t : State} (found : Bool) → cond found (Valid s) NoImage ≡ Valid t → T found × (s ≡ t)
 picked true e = (tt, cc)
@@ -30,9 +32,9 @@ picked false e = let z : _≡_ {A = ℕ} 0 1 = cc in let never : ⊥ = omega ari
 decode-both : (b : List ℕ) (s : State) → decodeOf b ≡ Valid s → (encodeOf s ≡ b) × T (validState s)
 unfolding decodeOf
 decode-both b s e =
-    let found = picked (sameBytes (encodeOf (parseOf b)) b && validState (parseOf b)) e in
-    let both = and-yes (sameBytes (encodeOf (parseOf b)) b) (validState (parseOf b)) (found .0) in
-    (cc (same-equal (encodeOf (parseOf b)) b (both .0), found .1), rw (found .1) at (both .1))
+    let found = picked (isImage encodeOf parseOf validState b) e in
+    let named = image-names encodeOf parseOf validState parse-encode b (found .0) in
+    (cc (named .0, found .1), rw (found .1) at (named .1))
 
 pub decode-image : (b : List ℕ) (s : State) → decodeOf b ≡ Valid s → encodeOf s ≡ b
 decode-image b s e = decode-both b s e .0
@@ -57,7 +59,7 @@ decode-length b other = decode-other b (λ s v e. other (sym (ap length e) ∙ e
 
 -- Two states with one image are one state.
 pub encode-injective : (s t : State) → encodeOf s ≡ encodeOf t → s ≡ t
-encode-injective s t e = sym (parse-encode s) ∙ ap parseOf e ∙ parse-encode t
+encode-injective s t e = encode-apart encodeOf parseOf validState parse-encode s t e
 
 -- What is saved over bytes of the right length comes back.
 pub decode-saved : (s : State) (b : List ℕ) → length b ≡ imageLength → T (validState s) → decodeOf (saveOf s b) ≡ Valid s

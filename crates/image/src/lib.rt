@@ -3,7 +3,8 @@ mod handler_part;
 
 ghost use mathlib.Core.Path.{_≡_};
 ghost use lib.ListN.{length};
-ghost use Rattle.image.specs.Image.{imageLength, encodeOf, parseOf, sameBytes, decodeOf, saveOf, validState};
+ghost use Rattle.image.specs.Image.{imageLength, encodeOf, parseOf, decodeOf, saveOf, validState};
+ghost use Rattle.codec.specs.Codec.{sameBytes};
 use firmware::State;
 use module_image::MODULE_LENGTH;
 

@@ -5,7 +5,7 @@ use mathlib.Core.Path.{_≡_, refl, sym, _∙_}
 use mathlib.Core.Bool.{_&&_}
 use native.Mathlib.Omega.{arith}
 use lib.ListN.{length, drop}
-use Rattle.image.specs.Image.{sameBytes}
+use Rattle.codec.specs.Codec.{sameBytes}
 use Rattle.image.specs.Laws.{same-on, same-end}
 use Rattle.image.proofs.same.Statement.{statement}
 use Rattle.image.proofs.same.Tie as tie

@@ -1,0 +1,16 @@
+-- Bytes as the image of a state (01, "Calls, refusals and their order"), for any kind of state: it is encoded, bytes name one
+-- whether they are its image or not, and some states are valid.
+use Prim.Native.Nat.{ℕ}
+use mathlib.Core.Bool.{Bool, true, false, _&&_}
+use mathlib.Core.List.{List, [], _∷_}
+use lib.Dec.{eqb}
+
+abbrev pub sameBytes : List ℕ → List ℕ → Bool
+sameBytes [] [] = true
+sameBytes [] (y ∷ ys) = false
+sameBytes (x ∷ xs) [] = false
+sameBytes (x ∷ xs) (y ∷ ys) = eqb x y && sameBytes xs ys
+
+-- Bytes are an image if they are just the encoding of the state that they name, and that state is valid.
+abbrev pub isImage : {S : Type 0} → (S → List ℕ) → (List ℕ → S) → (S → Bool) → List ℕ → Bool
+isImage encode parse valid bytes = sameBytes (encode (parse bytes)) bytes && valid (parse bytes)
