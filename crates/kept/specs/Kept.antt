@@ -213,7 +213,7 @@ con1-kept false false v m e k mode h =
       hold = low-fits (m .phase) (bit 4 v) k;
     }
 
-pub write-kept : (r : Register) (v : ℕ) (m : Module) → accepted (verdictOf r v) ≡ true → Valid m → Valid (written r v m)
+pub write-kept : (r : Register) (v : ℕ) (m : Module) → accepted (verdictOf r v m) ≡ true → Valid m → Valid (written r v m)
 write-kept Buf v m a h = same m (written Buf v m) refl refl refl refl refl refl refl h
 write-kept Stat v m a h = same m (written Stat v m) refl refl refl refl refl refl refl h
 write-kept Con1 v m a h =
@@ -236,5 +236,5 @@ access-read-kept m number v = read-kept (registerOf number) m v
 
 pub access-write-kept : (m : Module) (number v : ℕ) → Valid m → Valid (writeOf m number v .mssp)
 access-write-kept m number v h =
-    write-either (accepted (verdictOf (registerOf number) v)) m (written (registerOf number) v m)
+    write-either (accepted (verdictOf (registerOf number) v m)) m (written (registerOf number) v m)
     (λ a. write-kept (registerOf number) v m a h) h

@@ -2,9 +2,11 @@
 -- Assumes nothing.
 use Prim.Native.Nat.{ℕ, _/_, _%_}
 use mathlib.Core.Bool.{Bool, true, false, cond, _&&_, not}
+use mathlib.Core.List.{List, [], _∷_}
 use lib.Dec.{eqb}
 use Rattle.wire.specs.Byte.{bit}
 use Rattle.refusals.specs.Numbers.{accepted}
+use Rattle.refusals.specs.declared.Refusal.{Refusal}
 use Rattle.refusals.specs.declared.Refusal.the-variants.{NoRegister, ReservedBit, NoMode}
 use Rattle.refusals.specs.declared.Verdict.{Verdict}
 use Rattle.refusals.specs.declared.Verdict.the-variants.{Done, Refused}
@@ -69,21 +71,56 @@ written Msk v m = withConfig (setMSK v (m .config)) m
 written Flag v m = flagWritten v m
 written Nowhere v m = m
 
--- The causes, in the paper's order: no such register; a bit of the master or BOEN set; SSPEN 1 with a mode that is not
--- modelled.
-abbrev pub verdictOf : Register → ℕ → Verdict
-verdictOf Buf v = Done 0
-verdictOf Stat v = Done 0
-verdictOf Con1 v = cond (bit 5 v && not (modelled (bit 3 v) (bit 2 v) (bit 1 v) (bit 0 v))) (Refused NoMode) (Done 0)
-verdictOf Con2 v = cond (not (eqb (v / 2 % 16) 0)) (Refused ReservedBit) (Done 0)
-verdictOf Con3 v = cond (bit 4 v) (Refused ReservedBit) (Done 0)
-verdictOf Add v = Done 0
-verdictOf Msk v = Done 0
-verdictOf Flag v = Done 0
-verdictOf Nowhere v = Refused NoRegister
+-- No register has the number.
+abbrev pub isNowhere : Register → Bool
+isNowhere Buf = false
+isNowhere Stat = false
+isNowhere Con1 = false
+isNowhere Con2 = false
+isNowhere Con3 = false
+isNowhere Add = false
+isNowhere Msk = false
+isNowhere Flag = false
+isNowhere Nowhere = true
+
+-- A bit of the master is set in CON2, or BOEN in CON3.
+abbrev pub setsReserved : Register → ℕ → Bool
+setsReserved Buf v = false
+setsReserved Stat v = false
+setsReserved Con1 v = false
+setsReserved Con2 v = not (eqb (v / 2 % 16) 0)
+setsReserved Con3 v = bit 4 v
+setsReserved Add v = false
+setsReserved Msk v = false
+setsReserved Flag v = false
+setsReserved Nowhere v = false
+
+-- SSPEN 1 in CON1 with a mode that is not modelled.
+abbrev pub setsNoMode : Register → ℕ → Bool
+setsNoMode Buf v = false
+setsNoMode Stat v = false
+setsNoMode Con1 v = bit 5 v && not (modelled (bit 3 v) (bit 2 v) (bit 1 v) (bit 0 v))
+setsNoMode Con2 v = false
+setsNoMode Con3 v = false
+setsNoMode Add v = false
+setsNoMode Msk v = false
+setsNoMode Flag v = false
+setsNoMode Nowhere v = false
+
+-- The first cause that holds, of causes in their order.
+abbrev pub firstCause : List (Bool × Refusal) → Verdict
+firstCause [] = Done 0
+firstCause (cause ∷ rest) = cond (cause .0) (Refused (cause .1)) (firstCause rest)
+
+-- Why a write is refused, in the paper's order: by the register, the value and the module that it finds.
+abbrev pub writeCauses : Register → ℕ → Module → List (Bool × Refusal)
+writeCauses r v m = (isNowhere r, NoRegister) ∷ (setsReserved r v, ReservedBit) ∷ (setsNoMode r v, NoMode) ∷ []
+
+abbrev pub verdictOf : Register → ℕ → Module → Verdict
+verdictOf r v m = firstCause (writeCauses r v m)
 
 -- A refused write leaves the module that was given.
 abbrev pub writeOf : Module → ℕ → ℕ → Access
 writeOf m number v =
-    accessOf (verdictOf (registerOf number) v)
-    (cond (accepted (verdictOf (registerOf number) v)) (written (registerOf number) v m) m)
+    let verdict : Verdict = verdictOf (registerOf number) v m in
+    accessOf verdict (cond (accepted verdict) (written (registerOf number) v m) m)

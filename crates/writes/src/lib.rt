@@ -97,9 +97,9 @@ fn with_config(m: Module, config: Config) -> Module
     }
 }
 
-// Whether a write is refused, and why: the first cause that holds.
-fn write_verdict(register: Register, v: u8) -> Verdict
-    ensures { λ r. ⌜ r ≡ verdictOf register v ⌝ }
+// Whether a write to a module is refused, and why: the first cause that holds.
+fn write_verdict(m: Module, register: Register, v: u8) -> Verdict
+    ensures { λ r. ⌜ r ≡ verdictOf register v m ⌝ }
 {
     let done = Verdict::Done(0);
     let reserved = Verdict::Refused(Refusal::ReservedBit);
@@ -149,7 +149,7 @@ pub fn write(m: Module, number: u32, v: u8) -> Access
     ensures { λ r. ⌜ r ≡ writeOf m number v ⌝ }
 {
     let register = registers::register_of(number);
-    let verdict = write_verdict(register, v);
+    let verdict = write_verdict(m, register, v);
     let taken = take(m, register, v);
     let next = mssp::pick_module(refusals::is_accepted(verdict), taken, m);
     Access {
