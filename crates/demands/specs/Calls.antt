@@ -1,0 +1,257 @@
+-- The words of the demands: a host's call, what it answers and leaves at the door and by the definitions, and the causes of each
+-- refusal (01, "Calls, refusals and their order").
+use Prim.Native.Nat.{ℕ, zero, suc, _+_, _%_, _<_, _≤_}
+use mathlib.Core.Logic.{_⊎_, _↔_}
+use mathlib.Core.Path.{_≡_}
+use mathlib.Core.Bool.{Bool, true, false, cond, _||_}
+use mathlib.Core.List.{List, [], _∷_, _++_, map}
+use lib.Dec.{T, eqb, ltb}
+use lib.ListN.{length, getD}
+use Rattle.refusals.specs.declared.Refusal.{Refusal}
+use Rattle.refusals.specs.declared.Refusal.the-variants.{NoState, NoRegister, ReservedBit, NoMode, NoWindow, NoItem, PastRecord}
+use Rattle.refusals.specs.declared.Verdict.{Verdict}
+use Rattle.refusals.specs.declared.Verdict.the-variants.{Done, Refused}
+use Rattle.refusals.specs.Numbers.{numberOf}
+use Rattle.wire.specs.Byte.{bit}
+use Rattle.wire.specs.Wire.{sclOf, sdaOf}
+use Rattle.mssp.specs.declared.Module.{Module}
+use Rattle.registers.specs.Values.{readOf}
+use Rattle.writes.specs.Writes.{writeOf}
+use Rattle.firmware.specs.declared.State.{State}
+use Rattle.firmware.specs.declared.Made.{Made}
+use Rattle.firmware.specs.declared.Made.the-variants.{Ready, Refused as NotMade}
+use Rattle.firmware.specs.Handler.{Served, served, setupOf}
+use Rattle.firmware.specs.Window.{windowFits, inBuffer}
+use Rattle.steps.specs.declared.Item.{Item}
+use Rattle.steps.specs.declared.Item.the-variants.{Call, Read, Write}
+use Rattle.steps.specs.Step.{Stepped, stepOf, afterAll}
+use Rattle.trace.specs.Run.{firstBad, itemIf, itemAt}
+use Rattle.agreement.specs.Joint.{Item as JointItem, sample as jointSample, call as jointCall}
+use Rattle.image.specs.Image.{imageLength, validState, encodeOf}
+use Rattle.door.specs.declared.Answer.{Answer}
+use Rattle.door.specs.Outcome.{Lent, outcome, lent, done, refused}
+use Rattle.door.specs.Door.{doorSetup, doorRead, doorWrite, doorSample, doorCall, doorRun}
+
+-- ---- a host's calls, over the bytes of one state and one buffer
+pub data DoorCall : Type 0 where
+  setUp : (add n : ℕ) → DoorCall
+  readRegister : (number : ℕ) → DoorCall
+  writeRegister : (number value : ℕ) → DoorCall
+  feedSample : (level : ℕ) → DoorCall
+  callHandler : (start n : ℕ) → DoorCall
+  runTrace : (start n : ℕ) (items : List ℕ) → DoorCall
+
+-- What a host lends.
+pub record Host : Type 0 where
+  pub state : List ℕ
+  pub buffer : List ℕ
+
+abbrev pub host : List ℕ → List ℕ → Host
+host state buffer = record { state = state; buffer = buffer }
+
+-- What a call answers, and what it leaves of what it worked on.
+pub record Reply (W : Type 0) : Type 0 where
+  pub answer : Answer
+  pub left : W
+
+abbrev pub reply : {W : Type 0} → Answer → W → Reply W
+reply answer left = record { answer = answer; left = left }
+
+-- Calls one after the other, each on what the one before it left: all their answers, and what is left at the end.
+abbrev pub answers : {W : Type 0} → (W → DoorCall → Reply W) → W → List DoorCall → List Answer
+answers work w [] = []
+answers work w (c ∷ calls) = work w c .answer ∷ answers work (work w c .left) calls
+
+abbrev pub leftAfter : {W : Type 0} → (W → DoorCall → Reply W) → W → List DoorCall → W
+leftAfter work w [] = w
+leftAfter work w (c ∷ calls) = leftAfter work (work w c .left) calls
+
+-- ---- at the door: what the contract of each exported function says; only a handler call and a run are lent the buffer
+abbrev pub contract : Host → DoorCall → Lent
+contract h (setUp add n) = lent (doorSetup (h .state) add n) (h .buffer)
+contract h (readRegister number) = lent (doorRead (h .state) number) (h .buffer)
+contract h (writeRegister number value) = lent (doorWrite (h .state) number value) (h .buffer)
+contract h (feedSample level) = lent (doorSample (h .state) level) (h .buffer)
+contract h (callHandler start n) = doorCall (h .state) (h .buffer) start n
+contract h (runTrace start n items) = doorRun (h .state) (h .buffer) start n items
+
+-- An answer, with what it leaves, that a call's contract allows.
+abbrev pub Fits : Host → DoorCall → Answer → Host → Type 0
+Fits before c answer after = lent (outcome answer (after .state)) (after .buffer) ≡ contract before c
+
+abbrev pub atDoor : Host → DoorCall → Reply Host
+atDoor h c =
+    let o : Lent = contract h c in
+    reply (o .outcome .answer) (host (o .outcome .state) (o .buffer))
+
+-- ---- by the definitions: one step for each item, on a state and the whole buffer
+abbrev pub told : Verdict → Answer
+told (Done value) = done value
+told (Refused why) = refused why 0
+
+abbrev pub stepBy : Served → Item → Reply Served
+stepBy w item =
+    let step : Stepped = stepOf (w .state) (w .bytes) item in
+    reply (told (step .verdict)) (step .left)
+
+-- Items in a window of the buffer: 5 where the window does not fit, then 4 with the first bad item's number.
+abbrev pub inWindow : Bool → Bool → ℕ → Served → ℕ → ℕ → List Item → Reply Served
+inWindow false bad item w start n items = reply (refused NoWindow 0) w
+inWindow true true item w start n items = reply (refused NoItem item) w
+inWindow true false item w start n items =
+    reply (done 0) (inBuffer (λ window. afterAll (served (w .state) window) items) (w .bytes) start n)
+
+-- The window lies inside the buffer and has the setup's length.
+abbrev pub fits : Served → ℕ → ℕ → Bool
+fits w start n = windowFits (length (w .bytes)) start n (w .state .handler .n)
+
+abbrev pub madeOf : Made → Served → Reply Served
+madeOf (Ready s) w = reply (done 0) (served s (w .bytes))
+madeOf (NotMade why) w = reply (refused why 0) w
+
+abbrev pub byDefinition : Served → DoorCall → Reply Served
+byDefinition w (setUp add n) = madeOf (setupOf add n) w
+byDefinition w (readRegister number) = stepBy w (Read number)
+byDefinition w (writeRegister number value) = stepBy w (Write number value)
+byDefinition w (feedSample level) = stepBy w (itemIf (ltb level 4) false level)
+byDefinition w (callHandler start n) = inWindow (fits w start n) false 0 w start n (Call ∷ [])
+byDefinition w (runTrace start n items) =
+    inWindow (fits w start n) (ltb (firstBad items) (length items)) (firstBad items) w start n (map itemAt items)
+
+-- ---- the image of a state, and bytes that are no state's
+abbrev pub ImageOf : State → List ℕ → Type 0
+ImageOf s bytes = (encodeOf s ≡ bytes) × T (validState s)
+
+abbrev pub ImageOfNone : List ℕ → Type 0
+ImageOfNone bytes = (s : State) → ImageOf s bytes → ⊥
+
+-- ---- the causes of the refusals
+-- One entry for each, in the order in which they are looked at: 6, 1, 2, 3, 5, 4, 7.
+abbrev pub row {ℓ} : {A : Type ℓ} → A → A → A → A → A → A → A → Refusal → A
+row six one two three five four seven NoState = six
+row six one two three five four seven NoRegister = one
+row six one two three five four seven ReservedBit = two
+row six one two three five four seven NoMode = three
+row six one two three five four seven NoWindow = five
+row six one two three five four seven NoItem = four
+row six one two three five four seven PastRecord = seven
+
+abbrev pub order : List Refusal
+order = NoState ∷ NoRegister ∷ ReservedBit ∷ NoMode ∷ NoWindow ∷ NoItem ∷ PastRecord ∷ []
+
+-- CON2 (3) with one of its bits 4..1, or CON3 (4) with BOEN.
+abbrev pub SetsReserved : ℕ → ℕ → Type 0
+SetsReserved number value =
+    ((number ≡ 3) × (bit 4 value || bit 3 value || bit 2 value || bit 1 value ≡ true)) ⊎ ((number ≡ 4) × (bit 4 value ≡ true))
+
+-- CON1 (2) with SSPEN 1 and SSPM neither 0110 nor 1110.
+abbrev pub SetsNoMode : ℕ → ℕ → Type 0
+SetsNoMode number value =
+    (number ≡ 2) × (bit 5 value ≡ true) × (value % 16 ≡ 0b0110 → ⊥) × (value % 16 ≡ 0b1110 → ⊥)
+
+-- A window that is not inside its buffer, or whose length is not the setup's.
+abbrev pub SetUpFor : ℕ → List ℕ → Type 0
+SetUpFor n bytes = (s : State) × ImageOf s bytes × (s .handler .n ≡ n)
+
+abbrev pub FitsNot : Host → ℕ → ℕ → Type 0
+FitsNot h start n = (length (h .buffer) < start + n) ⊎ (SetUpFor n (h .state) → ⊥)
+
+-- A byte above the largest that there is.
+abbrev pub SomeAbove : ℕ → List ℕ → Type 0
+SomeAbove most items = (k : ℕ) × (k < length items) × (most < getD items k 0)
+
+-- The table: which cause each call can have.
+abbrev pub cause : Host → DoorCall → Refusal → Type 0
+cause h (setUp add n) = row (length (h .state) ≡ imageLength → ⊥) ⊥ ⊥ ⊥ ((n ≡ 0) ⊎ (256 < n)) ⊥ ⊥
+cause h (readRegister number) = row (ImageOfNone (h .state)) (7 < number) ⊥ ⊥ ⊥ ⊥ ⊥
+cause h (writeRegister number value) =
+    row (ImageOfNone (h .state)) (7 < number) (SetsReserved number value) (SetsNoMode number value) ⊥ ⊥ ⊥
+cause h (feedSample level) = row (ImageOfNone (h .state)) ⊥ ⊥ ⊥ ⊥ (3 < level) ⊥
+cause h (callHandler start n) = row (ImageOfNone (h .state)) ⊥ ⊥ ⊥ (FitsNot h start n) ⊥ ⊥
+cause h (runTrace start n items) = row (ImageOfNone (h .state)) ⊥ ⊥ ⊥ (FitsNot h start n) (SomeAbove 4 items) ⊥
+
+abbrev pub lookCause : List ℕ → Refusal → Type 0
+lookCause bytes = row (ImageOfNone bytes) ⊥ ⊥ ⊥ ⊥ ⊥ ⊥
+
+abbrev pub findCause : List ℕ → ℕ → Refusal → Type 0
+findCause levels item = row ⊥ ⊥ ⊥ ⊥ ⊥ (SomeAbove 3 levels) (length levels ≤ item)
+
+-- The first in the order whose cause holds; none of them holds.
+abbrev pub First : (Refusal → Type 0) → List Refusal → Refusal → Type 0
+First given [] why = ⊥
+First given (next ∷ rest) why = ((next ≡ why) × given next) ⊎ ((given next → ⊥) × First given rest why)
+
+abbrev pub None : (Refusal → Type 0) → List Refusal → Type 0
+None given [] = Unit {0}
+None given (next ∷ rest) = (given next → ⊥) × None given rest
+
+-- A number is answered exactly when its cause is the first that holds, and 0 exactly when none holds.
+abbrev pub Exactly : ℕ → (Refusal → Type 0) → Type 0
+Exactly refusal given =
+    ((why : Refusal) → (refusal ≡ numberOf why) ↔ First given order why) × ((refusal ≡ 0) ↔ None given order)
+
+-- The first bad item, whose number stands beside refusal 4 of a run and of the finder.
+pub record FirstAbove (most : ℕ) (items : List ℕ) (k : ℕ) : Type 0 where
+  pub within : k < length items
+  pub above : most < getD items k 0
+  pub before : (i : ℕ) → i < k → getD items i 0 ≤ most
+
+-- It stands there and nowhere else.
+abbrev pub OnlyBeside : ℕ → Type 0 → ℕ → Type 0
+OnlyBeside refusal named item = (refusal ≡ numberOf NoItem → named) × ((refusal ≡ numberOf NoItem → ⊥) → item ≡ 0)
+
+abbrev pub Beside : DoorCall → ℕ → Type 0
+Beside (setUp add n) item = item ≡ 0
+Beside (readRegister number) item = item ≡ 0
+Beside (writeRegister number value) item = item ≡ 0
+Beside (feedSample level) item = item ≡ 0
+Beside (callHandler start n) item = item ≡ 0
+Beside (runTrace start n items) item = FirstAbove 4 items item
+
+-- ---- a trace through the door
+-- Items fed in runs, in samples and handler calls, or in any mixture of them, over one window.
+pub data Feeds (start n : ℕ) : List DoorCall → List ℕ → Type 0 where
+  nothing : Feeds start n [] []
+  by-run : {items rest : List ℕ} {calls : List DoorCall} → Feeds start n calls rest → Feeds start n (runTrace start n items ∷ calls) (items ++ rest)
+  by-sample : {level : ℕ} {rest : List ℕ} {calls : List DoorCall} → level ≤ 3 → Feeds start n calls rest → Feeds start n (feedSample level ∷ calls) (level ∷ rest)
+  by-call : {rest : List ℕ} {calls : List DoorCall} → Feeds start n calls rest → Feeds start n (callHandler start n ∷ calls) (4 ∷ rest)
+
+-- The call that does what one item asks for.
+abbrev pub callFor : ℕ → ℕ → ℕ → DoorCall
+callFor start n item = cond (ltb item 4) (feedSample item) (callHandler start n)
+
+-- An item of a trace as one of the joint run.
+abbrev pub jointItem : ℕ → JointItem
+jointItem item = cond (ltb item 4) (jointSample (sclOf item) (sdaOf item)) jointCall
+
+-- ---- a firmware: register accesses and nothing else
+-- What a register shows; what a read and a write of it leave.
+abbrev pub shown : Verdict → ℕ
+shown (Done value) = value
+shown (Refused why) = 0
+
+abbrev pub shows : ℕ → Module → ℕ
+shows number m = shown (readOf m number .verdict)
+
+abbrev pub reading : ℕ → Module → Module
+reading number m = readOf m number .mssp
+
+abbrev pub writing : ℕ → ℕ → Module → Module
+writing number value m = writeOf m number value .mssp
+
+-- CON1 (2) is written with what it holds and CKP (bit 4) 1.
+abbrev pub settingCKP : Module → Module
+settingCKP m = let held : ℕ = shows 2 m in writing 2 (cond (bit 4 held) held (held + 16)) m
+
+-- What is done by SSPIF, CKP, R/W and D/A: the flag (7) is written 0; BUF (0) is read, or written with the byte at the pointer,
+-- after a read address both; last, CKP 1.
+abbrev pub firmwareIf : Bool → Bool → Bool → Bool → ℕ → Module → Module
+firmwareIf false ckp rw da byte m = m
+firmwareIf true true rw da byte m = writing 7 0 m
+firmwareIf true false false da byte m = settingCKP (reading 0 (writing 7 0 m))
+firmwareIf true false true false byte m = settingCKP (writing 0 byte (reading 0 (writing 7 0 m)))
+firmwareIf true false true true byte m = settingCKP (writing 0 byte (writing 7 0 m))
+
+-- The four bits as the registers show them: flag (7), CON1 (2) and STAT (1).
+abbrev pub firmware : ℕ → Module → Module
+firmware byte m = firmwareIf (bit 0 (shows 7 m)) (bit 4 (shows 2 m)) (bit 2 (shows 1 m)) (bit 5 (shows 1 m)) byte m
