@@ -1,0 +1,174 @@
+-- Demand 2: after every list of calls the bytes are the image of the state that the definitions give.
+use Prim.Native.Nat.{ℕ, _≤_}
+use mathlib.Core.Path.{_≡_, refl, sym, ap, subst, _∙_}
+use mathlib.Core.Bool.{Bool, true, false}
+use mathlib.Core.List.{List, [], _∷_, map}
+use native.Mathlib.Omega.{arith}
+use lib.Dec.{T, ltb}
+use lib.ListN.{length}
+use borrow.Author.Tests.{eq-eqb, ltb-true, ltb-false, lt-ltb, le-ltb}
+use Rattle.truth.specs.Tests.{never, by-test}
+use Rattle.refusals.specs.declared.Verdict.{Verdict}
+use Rattle.refusals.specs.declared.Verdict.the-variants.{Done, Refused}
+use Rattle.refusals.specs.Numbers.{accepted}
+use Rattle.mssp.specs.declared.Module.{Module}
+use Rattle.registers.specs.declared.Access.{Access}
+use Rattle.registers.specs.declared.Register.{Register}
+use Rattle.registers.specs.declared.Register.the-variants.{Buf, Stat, Con1, Con2, Con3, Add, Msk, Flag, Nowhere}
+use Rattle.registers.specs.Values.{registerOf, valueOf, readVerdict, afterRead, readOf}
+use Rattle.writes.specs.Writes.{writeOf}
+use Rattle.readback.specs.Readback.{refused-leaves}
+use Rattle.firmware.specs.declared.State.{State}
+use Rattle.firmware.specs.declared.Made.{Made}
+use Rattle.firmware.specs.declared.Made.the-variants.{Ready, Refused as NotMade}
+use Rattle.firmware.specs.Handler.{Served, served, stateOf, setupOf}
+use Rattle.firmware.specs.Window.{windowFits, callOf, choice as callChoice}
+use Rattle.steps.specs.declared.Item.the-variants.{Call}
+use Rattle.steps.specs.Step.{afterAll}
+use Rattle.trace.specs.Run.{firstBad, sampledBy, itemAt}
+use Rattle.trace.specs.Window.{runInOf, choice as runChoice}
+use Rattle.image.specs.Image.{imageLength, validState, encodeOf, decodeOf}
+use Rattle.image.specs.Laws.{encode-length}
+use Rattle.image.specs.Theorems.{decode-encode}
+use Rattle.view.specs.View.{viewOf, noView}
+use Rattle.door.specs.declared.Answer.{Answer}
+use Rattle.door.specs.Outcome.{Outcome, Lent, lent, settled, noState, byState}
+use Rattle.door.specs.Door.{setupIf, doorSetup, accessed, levelVerdict, called, ran}
+use Rattle.door.specs.Theorems.{setup-keeps}
+use Rattle.doorkept.specs.Image.{Image, setup-leaves, stays, read-stays, write-stays, sample-stays, call-stays, run-stays}
+use Rattle.demands.specs.Calls.{DoorCall, setUp, readRegister, writeRegister, feedSample, callHandler, runTrace, Host, host, Reply, reply, answers, leftAfter, atDoor, told, inWindow, madeOf, byDefinition}
+use Rattle.demands.specs.Demands.{DemandTwo}
+use Rattle.demands.specs.Laws.{image-is, on-state}
+
+-- What a host holds of a state and its buffer.
+abbrev pub imageHost : Served → Host
+imageHost w = host (encodeOf (w .state)) (w .bytes)
+
+abbrev imageReply : Reply Served → Reply Host
+imageReply r = reply (r .answer) (imageHost (r .left))
+
+-- ---- one call
+-- A read that is refused leaves the module as it was.
+read-refused : (r : Register) (held : ℕ) (m : Module) → accepted (readVerdict r held) ≡ false → afterRead r m ≡ m
+read-refused Buf held m e = never (sym e)
+read-refused Stat held m e = refl
+read-refused Con1 held m e = refl
+read-refused Con2 held m e = refl
+read-refused Con3 held m e = refl
+read-refused Add held m e = refl
+read-refused Msk held m e = refl
+read-refused Flag held m e = refl
+read-refused Nowhere held m e = refl
+
+module _ (w : Served) where
+  abbrev s : State
+  s = w .state
+
+  abbrev bytes : List ℕ
+  bytes = encodeOf (w .state)
+
+  abbrev buffer : List ℕ
+  buffer = w .bytes
+
+  abbrev kept : Outcome → Reply Host
+  kept o = reply (o .answer) (host (o .state) buffer)
+
+  abbrev lends : Lent → Reply Host
+  lends o = reply (o .outcome .answer) (host (o .outcome .state) (o .buffer))
+
+  -- Done, the bytes are the image of the next state; refused, that of the same.
+  settles :
+      (v : Verdict) (next : State) → (accepted v ≡ false → next ≡ s)
+      → kept (settled v 0 next bytes) ≡ imageReply (reply (told v) (served next buffer))
+  settles (Done value) next same = refl
+  settles (Refused why) next same = rw (same refl)
+
+  made : (m : Made) → kept (setupIf true m bytes) ≡ imageReply (madeOf m w)
+  made (Ready next) = refl
+  made (NotMade why) = refl
+
+  sampled : (level : ℕ) → kept (settled (levelVerdict level) 0 (sampledBy s level) bytes) ≡ imageReply (byDefinition w (feedSample level))
+  sampled level =
+      by-test (ltb 3 level) (λ t. let h = ltb-true 3 level t in rw (t, le-ltb level 4 h))
+      (λ t. let h = ltb-false 3 level t in rw (t, lt-ltb level 4 (omega arith)))
+
+  called-if : (start n : ℕ) (fits : Bool) → lends (called bytes (callChoice s buffer start n fits)) ≡ imageReply (inWindow fits false 0 w start n (Call ∷ []))
+  unfolding afterAll
+  called-if start n true = refl
+  called-if start n false = refl
+
+  ran-if :
+      (start n : ℕ) (items : List ℕ) (fits bad : Bool)
+      → lends (ran bytes (runChoice fits bad s buffer start n items)) ≡ imageReply (inWindow fits bad (firstBad items) w start n (map itemAt items))
+  ran-if start n items false bad = refl
+  ran-if start n items true true = refl
+  ran-if start n items true false = refl
+
+  module _ (v : T (validState s)) where
+    accesses :
+        (work : Module → Access) → (accepted (work (s .mssp) .verdict) ≡ false → work (s .mssp) .mssp ≡ s .mssp)
+        → kept (byState (decodeOf bytes) (noState bytes) (accessed work bytes))
+        ≡ imageReply (reply (told (work (s .mssp) .verdict)) (served (stateOf (work (s .mssp) .mssp) (s .handler)) buffer))
+    accesses work same =
+        ap kept (on-state (noState bytes) (accessed work bytes) s v)
+        ∙ settles (work (s .mssp) .verdict) (stateOf (work (s .mssp) .mssp) (s .handler))
+        (λ e. ap (λ (m : Module). stateOf m (s .handler)) (same e))
+
+    one-call : (c : DoorCall) → atDoor (imageHost w) c ≡ imageReply (byDefinition w c)
+    one-call (setUp add n) = rw (eq-eqb (length bytes) imageLength (encode-length s)) (made (setupOf add n))
+    one-call (readRegister number) =
+        let r = registerOf number in
+        accesses (λ m. readOf m number) (read-refused r (valueOf (s .mssp .config) (s .mssp .live) r) (s .mssp))
+    one-call (writeRegister number value) = accesses (λ m. writeOf m number value) (refused-leaves number value (s .mssp))
+    one-call (feedSample level) =
+        ap kept (on-state (noState bytes) (λ t. settled (levelVerdict level) 0 (sampledBy t level) bytes) s v) ∙ sampled level
+    one-call (callHandler start n) =
+        ap lends (on-state (lent (noState bytes) buffer) (λ t. called bytes (callOf t buffer start n)) s v)
+        ∙ called-if start n (windowFits (length buffer) start n (s .handler .n))
+    one-call (runTrace start n items) =
+        ap lends (on-state (lent (noState bytes) buffer) (λ t. ran bytes (runInOf t buffer start n items)) s v)
+        ∙ ran-if start n items (windowFits (length buffer) start n (s .handler .n)) (ltb (firstBad items) (length items))
+
+-- ---- an image stays an image, so the next state is one
+image-stays : (h : Host) (c : DoorCall) → Image (h .state) → Image (atDoor h c .left .state)
+image-stays h (setUp add n) image = stays (doorSetup (h .state) add n) (setup-keeps (h .state) add n) (setup-leaves (h .state) add n) image
+image-stays h (readRegister number) image = read-stays (h .state) image number
+image-stays h (writeRegister number value) image = write-stays (h .state) image number value
+image-stays h (feedSample level) image = sample-stays (h .state) image level
+image-stays h (callHandler start n) image = call-stays (h .state) image (h .buffer) start n
+image-stays h (runTrace start n items) image = run-stays (h .state) image (h .buffer) start n items
+
+next-valid : (w : Served) (c : DoorCall) → T (validState (w .state)) → T (validState (byDefinition w c .left .state))
+next-valid w c v =
+    image-is (byDefinition w c .left .state)
+    (subst (λ (r : Reply Host). Image (r .left .state)) (one-call w v c)
+    (image-stays (imageHost w) c (record { of = w .state; decodes = decode-encode (w .state) v })))
+
+-- ---- all the calls of a list
+pub record Follows (w : Served) (calls : List DoorCall) : Type 0 where
+  pub valid : T (validState (leftAfter byDefinition w calls .state))
+  pub answered : answers atDoor (imageHost w) calls ≡ answers byDefinition w calls
+  pub left : leftAfter atDoor (imageHost w) calls ≡ imageHost (leftAfter byDefinition w calls)
+
+pub follows : (w : Served) (calls : List DoorCall) → T (validState (w .state)) → Follows w calls
+follows w [] v = record { valid = v; answered = refl; left = refl }
+follows w (c ∷ calls) v =
+    let one = one-call w v c in
+    let rest = follows (byDefinition w c .left) calls (next-valid w c v) in
+    record {
+      valid = rest .valid;
+      answered = ap (λ (r : Reply Host). r .answer ∷ answers atDoor (r .left) calls) one ∙ ap (λ (more : List Answer). byDefinition w c .answer ∷ more) (rest .answered);
+      left = ap (λ (r : Reply Host). leftAfter atDoor (r .left) calls) one ∙ rest .left;
+    }
+
+pub demand-two : DemandTwo
+demand-two s h calls image =
+    let w : Served = served s (h .buffer) in
+    let k = follows w calls (image .1) in
+    let is : h ≡ imageHost w = ap (λ (b : List ℕ). host b (h .buffer)) (sym (image .0)) in
+    rw is (
+      k .answered,
+      (ap (λ (x : Host). x .state) (sym (k .left)), k .valid),
+      ap (λ (x : Host). x .buffer) (k .left),
+      rw (k .left) (on-state noView viewOf (leftAfter byDefinition w calls .state) (k .valid)),
+    )
