@@ -5,3 +5,4 @@ pub mod DemandTwo
 pub mod SetupRegisters
 pub mod RunIsCalls
 pub mod DemandThree
+pub mod Causes

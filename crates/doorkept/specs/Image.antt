@@ -77,7 +77,7 @@ abbrev pub Leaves : Outcome → Type 0
 Leaves o = o .answer .refusal ≡ 0 → Image (o .state)
 
 -- No cause has the number 0.
-some-number : (why : Refusal) → numberOf why ≡ 0 → ⊥
+pub some-number : (why : Refusal) → numberOf why ≡ 0 → ⊥
 some-number NoState e = omega arith
 some-number NoRegister e = omega arith
 some-number ReservedBit e = omega arith
