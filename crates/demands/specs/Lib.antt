@@ -6,3 +6,4 @@ pub mod SetupRegisters
 pub mod RunIsCalls
 pub mod DemandThree
 pub mod Causes
+pub mod DemandOne
