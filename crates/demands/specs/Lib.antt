@@ -7,3 +7,4 @@ pub mod RunIsCalls
 pub mod DemandThree
 pub mod Causes
 pub mod DemandOne
+pub mod HandlerIsFirmware

@@ -165,7 +165,7 @@ module _ (start n : ℕ) where
       (λ o. o .outcome .answer .refusal ≡ 0 → (s : State) × ImageOf s (h .state)) (h .state) (λ no e. absurd (omega arith))
       (λ s image e. (s, image))
 
-  was-run :
+  pub was-run :
       (w : Served) (items : List Item) (f bad : Bool) (item : ℕ) → inWindow f bad item w start n items .answer .refusal ≡ 0
       → (f ≡ true) × (bad ≡ false)
   was-run w items false bad item e = absurd (omega arith)
