@@ -1,11 +1,11 @@
 -- The words of the demands: a host's call, what it answers and leaves at the door and by the definitions, and the causes of each
 -- refusal (01, "Calls, refusals and their order").
-use Prim.Native.Nat.{ℕ, zero, suc, _+_, _%_, _<_, _≤_}
+use Prim.Native.Nat.{ℕ, _+_, _/_, _%_, _<_, _≤_}
 use mathlib.Core.Logic.{_⊎_, _↔_}
 use mathlib.Core.Path.{_≡_}
-use mathlib.Core.Bool.{Bool, true, false, cond, _||_}
+use mathlib.Core.Bool.{Bool, true, false, cond}
 use mathlib.Core.List.{List, [], _∷_, _++_, map}
-use lib.Dec.{T, eqb, ltb}
+use lib.Dec.{T, ltb}
 use lib.ListN.{length, getD}
 use Rattle.refusals.specs.declared.Refusal.{Refusal}
 use Rattle.refusals.specs.declared.Refusal.the-variants.{NoState, NoRegister, ReservedBit, NoMode, NoWindow, NoItem, PastRecord}
@@ -75,9 +75,9 @@ contract h (feedSample level) = lent (doorSample (h .state) level) (h .buffer)
 contract h (callHandler start n) = doorCall (h .state) (h .buffer) start n
 contract h (runTrace start n items) = doorRun (h .state) (h .buffer) start n items
 
--- An answer, with what it leaves, that a call's contract allows.
-abbrev pub Fits : Host → DoorCall → Answer → Host → Type 0
-Fits before c answer after = lent (outcome answer (after .state)) (after .buffer) ≡ contract before c
+-- What a call's contract allows it to answer and leave.
+abbrev pub Allows : Host → DoorCall → Answer → Host → Type 0
+Allows before c answer after = lent (outcome answer (after .state)) (after .buffer) ≡ contract before c
 
 abbrev pub atDoor : Host → DoorCall → Reply Host
 atDoor h c =
@@ -139,10 +139,9 @@ row six one two three five four seven PastRecord = seven
 abbrev pub order : List Refusal
 order = NoState ∷ NoRegister ∷ ReservedBit ∷ NoMode ∷ NoWindow ∷ NoItem ∷ PastRecord ∷ []
 
--- CON2 (3) with one of its bits 4..1, or CON3 (4) with BOEN.
+-- CON2 (3) with bits 4..1 not all 0, or CON3 (4) with BOEN.
 abbrev pub SetsReserved : ℕ → ℕ → Type 0
-SetsReserved number value =
-    ((number ≡ 3) × (bit 4 value || bit 3 value || bit 2 value || bit 1 value ≡ true)) ⊎ ((number ≡ 4) × (bit 4 value ≡ true))
+SetsReserved number value = ((number ≡ 3) × (value / 2 % 16 ≡ 0 → ⊥)) ⊎ ((number ≡ 4) × (bit 4 value ≡ true))
 
 -- CON1 (2) with SSPEN 1 and SSPM neither 0110 nor 1110.
 abbrev pub SetsNoMode : ℕ → ℕ → Type 0
@@ -176,19 +175,14 @@ lookCause bytes = row (ImageOfNone bytes) ⊥ ⊥ ⊥ ⊥ ⊥ ⊥
 abbrev pub findCause : List ℕ → ℕ → Refusal → Type 0
 findCause levels item = row ⊥ ⊥ ⊥ ⊥ ⊥ (SomeAbove 3 levels) (length levels ≤ item)
 
--- The first in the order whose cause holds; none of them holds.
-abbrev pub First : (Refusal → Type 0) → List Refusal → Refusal → Type 0
-First given [] why = ⊥
-First given (next ∷ rest) why = ((next ≡ why) × given next) ⊎ ((given next → ⊥) × First given rest why)
+-- The number of the first in the order whose cause holds, 0 where none does.
+abbrev pub Numbered : (Refusal → Type 0) → List Refusal → ℕ → Type 0
+Numbered given [] number = number ≡ 0
+Numbered given (next ∷ rest) number = ((number ≡ numberOf next) × given next) ⊎ ((given next → ⊥) × Numbered given rest number)
 
-abbrev pub None : (Refusal → Type 0) → List Refusal → Type 0
-None given [] = Unit {0}
-None given (next ∷ rest) = (given next → ⊥) × None given rest
-
--- A number is answered exactly when its cause is the first that holds, and 0 exactly when none holds.
+-- A number is answered exactly then.
 abbrev pub Exactly : ℕ → (Refusal → Type 0) → Type 0
-Exactly refusal given =
-    ((why : Refusal) → (refusal ≡ numberOf why) ↔ First given order why) × ((refusal ≡ 0) ↔ None given order)
+Exactly refusal given = (number : ℕ) → (refusal ≡ number) ↔ Numbered given order number
 
 -- The first bad item, whose number stands beside refusal 4 of a run and of the finder.
 pub record FirstAbove (most : ℕ) (items : List ℕ) (k : ℕ) : Type 0 where

@@ -1,26 +1,25 @@
 -- Demand 3: set up and fed through the door, module and handler agree with the plain device.
-use Prim.Native.Nat.{ℕ, _+_, _<_, _≤_}
-use mathlib.Core.Path.{_≡_, refl, sym, ap, ap₂, subst, _∙_}
-use mathlib.Core.Bool.{Bool, true, false}
-use mathlib.Core.List.{List, [], _∷_, _++_, map}
+use Prim.Native.Nat.{ℕ, _+_, _≤_}
+use mathlib.Core.Path.{_≡_, refl, sym, ap, subst, _∙_}
+use mathlib.Core.Bool.{true}
+use mathlib.Core.List.{List, [], _∷_, map}
 use native.Mathlib.Omega.{arith}
-use lib.Dec.{T, eqb, leb, ltb}
+use lib.Dec.{leb, ltb}
 use lib.ListN.{length, getD}
-use borrow.Author.Tests.{eq-eqb, le-leb, leb-true, leb-false, lt-ltb, le-ltb, ltb-true, ltb-false}
+use borrow.Author.Tests.{eq-eqb, le-leb, leb-true, leb-false, ltb-false}
 use Rattle.truth.specs.Tests.{by-test}
-use Rattle.firmware.specs.declared.State.{State}
 use Rattle.firmware.specs.declared.Made.the-variants.{Ready}
 use Rattle.firmware.specs.Handler.{Served, served, setupOf}
 use Rattle.firmware.specs.Window.{windowOf, splice}
-use Rattle.steps.specs.Step.{afterAll, after}
-use Rattle.trace.specs.Run.{stepOf, stepIf, itemAt, runFrom, runOf}
+use Rattle.steps.specs.Step.{afterAll}
+use Rattle.trace.specs.Run.{stepOf, runFrom, runOf}
 use Rattle.trace.specs.Theorems.{SameOutside, run-length, window-length, splice-outside}
 use Rattle.agreement.specs.Joint.{Joint, step, run, afresh, Agrees}
 use Rattle.agreement.specs.Demand.{demand-three, begins-with-setup}
 use Rattle.image.specs.Image.{imageLength}
 use Rattle.door.specs.declared.Answer.{Answer}
 use Rattle.door.specs.Outcome.{done}
-use Rattle.demands.specs.Calls.{DoorCall, setUp, Host, host, Reply, reply, answers, leftAfter, atDoor, fits, byDefinition, SomeAbove, Feeds, jointItem}
+use Rattle.demands.specs.Calls.{setUp, Host, Reply, reply, answers, leftAfter, atDoor, fits, byDefinition, SomeAbove, jointItem}
 use Rattle.demands.specs.Demands.{DemandThree}
 use Rattle.demands.specs.DemandTwo.{imageHost, Follows, follows}
 use Rattle.demands.specs.SetupRegisters.{madeFor, setup-valid}

@@ -4,7 +4,6 @@ use Prim.Native.Nat.{ℕ, _+_, _<_, _≤_}
 use mathlib.Core.Path.{_≡_}
 use mathlib.Core.List.{List, [], _∷_, map}
 use lib.ListN.{length}
-use Rattle.refusals.specs.Numbers.{numberOf}
 use Rattle.memory.specs.Memory.{peeked}
 use Rattle.firmware.specs.declared.State.{State}
 use Rattle.firmware.specs.Handler.{Served, served, stateOf, memoryIn, called}
@@ -12,19 +11,18 @@ use Rattle.firmware.specs.Window.{windowOf, splice}
 use Rattle.trace.specs.Theorems.{SameOutside}
 use Rattle.agreement.specs.Joint.{Joint, run, afresh, Agrees}
 use Rattle.image.specs.Image.{imageLength}
-use Rattle.view.specs.declared.View.{View}
 use Rattle.view.specs.View.{viewOf}
 use Rattle.door.specs.declared.Answer.{Answer}
 use Rattle.door.specs.declared.Part.{Part}
 use Rattle.door.specs.Outcome.{done}
 use Rattle.door.specs.Door.{doorLook, doorFind}
-use Rattle.demands.specs.Calls.{DoorCall, setUp, readRegister, callHandler, runTrace, Host, host, answers, leftAfter, Fits, atDoor, byDefinition, ImageOf, cause, lookCause, findCause, Exactly, SomeAbove, FirstAbove, OnlyBeside, Beside, Feeds, jointItem, firmware}
+use Rattle.demands.specs.Calls.{DoorCall, setUp, readRegister, callHandler, runTrace, Host, answers, leftAfter, Allows, atDoor, byDefinition, ImageOf, cause, lookCause, findCause, Exactly, SomeAbove, FirstAbove, OnlyBeside, Beside, Feeds, jointItem, firmware}
 
 -- ---- DEMAND 1: every call has one outcome, changes only what it may, and refuses by number, exactly for the causes of the table
 -- Only one answer fits a call's contract, with one state and one buffer. (What look and find answer is an equation as it stands.)
 abbrev pub OneOutcome : Type 0
 OneOutcome =
-    (before : Host) (c : DoorCall) (r t : Answer) (a b : Host) → Fits before c r a → Fits before c t b → (r ≡ t) × (a ≡ b)
+    (before : Host) (c : DoorCall) (r t : Answer) (a b : Host) → Allows before c r a → Allows before c t b → (r ≡ t) × (a ≡ b)
 
 -- A refused call changes no byte of state or buffer, and a refused search hands back the empty part at 0.
 abbrev pub RefusedKeeps : Type 0

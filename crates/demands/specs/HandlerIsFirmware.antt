@@ -23,10 +23,9 @@ use Rattle.firmware.specs.Window.{windowOf}
 use Rattle.steps.specs.declared.Item.the-variants.{Call}
 use Rattle.steps.specs.Step.{afterAll}
 use Rattle.image.specs.HandlerPart.{handlerValid}
-use Rattle.image.specs.Image.{validState}
 use Rattle.door.specs.declared.Answer.{Answer}
 use Rattle.door.specs.Outcome.{done}
-use Rattle.demands.specs.Calls.{callHandler, Host, atDoor, fits, inWindow, byDefinition, ImageOf, shows, writing, settingCKP, firmwareIf, firmware}
+use Rattle.demands.specs.Calls.{callHandler, atDoor, fits, inWindow, ImageOf, shows, writing, settingCKP, firmwareIf, firmware}
 use Rattle.demands.specs.Demands.{HandlerIsFirmware}
 use Rattle.demands.specs.DemandTwo.{demand-two}
 use Rattle.demands.specs.RunIsCalls.{was-run}

@@ -1,10 +1,8 @@
 pub mod Calls
 pub mod Demands
-pub mod Laws
 pub mod DemandTwo
+pub mod DemandOne
 pub mod SetupRegisters
 pub mod RunIsCalls
 pub mod DemandThree
-pub mod Causes
-pub mod DemandOne
 pub mod HandlerIsFirmware

@@ -1,31 +1,28 @@
 -- A run is the calls one after the other, however its items are fed.
-use Prim.Native.Nat.{ℕ, zero, suc, _+_, _<_, _≤_}
-use mathlib.Core.Path.{_≡_, refl, sym, ap, ap₂, _∙_}
-use mathlib.Core.Bool.{Bool, true, false, true≢false, _&&_}
+use Prim.Native.Nat.{ℕ, _+_, _<_, _≤_}
+use mathlib.Core.Path.{_≡_, refl, sym, ap, _∙_}
+use mathlib.Core.Bool.{Bool, true, false}
 use mathlib.Core.List.{List, [], _∷_, _++_, map}
 use native.Mathlib.Omega.{arith}
-use lib.Dec.{T, eqb, leb, ltb}
+use lib.Dec.{eqb, ltb}
 use lib.ListN.{length, take, drop, getD, take-append-drop, length-append, length-drop, List·getD-append}
 use lib.Seq.{length-take-le, take-at, drop-at, getD-append-add}
 use borrow.Author.Tests.{ltb-true, ltb-false, lt-ltb, le-ltb}
 use Rattle.truth.specs.Tests.{by-test}
 use Rattle.items.specs.Theorems.{before-first, first-only}
 use Rattle.firmware.specs.declared.State.{State}
-use Rattle.firmware.specs.Handler.{Served, served, acknowledged, serve, calledIf, called}
+use Rattle.firmware.specs.Handler.{Served, served, acknowledged, serve, calledIf}
 use Rattle.firmware.specs.Window.{windowOf, splice, inBuffer}
 use Rattle.firmware.specs.Laws.{inside}
 use Rattle.steps.specs.declared.Item.{Item}
 use Rattle.steps.specs.Step.{afterAll}
 use Rattle.trace.specs.Run.{firstBad, stepIf, stepOf, itemAt, runFrom, runOf}
-use Rattle.trace.specs.Window.{runInOf}
 use Rattle.trace.specs.Theorems.{run-joined, run-length, window-length}
 use Rattle.door.specs.declared.Answer.{Answer}
-use Rattle.door.specs.Outcome.{Lent, lent, done, noState}
-use Rattle.door.specs.Door.{ran}
+use Rattle.door.specs.Outcome.{done}
 use Rattle.demands.specs.Calls.{DoorCall, feedSample, callHandler, runTrace, Host, host, Reply, reply, answers, leftAfter, atDoor, fits, inWindow, byDefinition, ImageOf, Feeds, nothing, by-run, by-sample, by-call, callFor}
 use Rattle.demands.specs.Demands.{RunIsCalls}
-use Rattle.demands.specs.Laws.{by-state}
-use Rattle.demands.specs.DemandTwo.{imageHost, follows}
+use Rattle.demands.specs.DemandTwo.{imageHost, by-image, follows}
 
 -- ---- other bytes in a window
 module _ (start n : ℕ) (bytes buffer : List ℕ) (h : start + n ≤ length buffer) (e : length bytes ≡ n) where
@@ -161,9 +158,8 @@ module _ (start n : ℕ) where
   was-image :
       (h : Host) (items : List ℕ) → atDoor h (runTrace start n items) .answer .refusal ≡ 0 → (s : State) × ImageOf s (h .state)
   was-image h items =
-      by-state (lent (noState (h .state)) (h .buffer)) (λ s. ran (h .state) (runInOf s (h .buffer) start n items))
-      (λ o. o .outcome .answer .refusal ≡ 0 → (s : State) × ImageOf s (h .state)) (h .state) (λ no e. absurd (omega arith))
-      (λ s image e. (s, image))
+      by-image h (runTrace start n items) tt (λ r. r .answer .refusal ≡ 0 → (s : State) × ImageOf s (h .state))
+      (λ nobody e. absurd (omega arith)) (λ s image e. (s, image))
 
   pub was-run :
       (w : Served) (items : List Item) (f bad : Bool) (item : ℕ) → inWindow f bad item w start n items .answer .refusal ≡ 0

@@ -1,6 +1,6 @@
 -- After an accepted setup the registers show what it chose, to look and to reads.
 use Prim.Native.Nat.{ℕ}
-use mathlib.Core.Path.{_≡_, refl, sym, ap, _∙_}
+use mathlib.Core.Path.{_≡_, refl}
 use mathlib.Core.Bool.{Bool, true, false, cond, _||_}
 use mathlib.Core.List.{List, [], _∷_, map}
 use native.Mathlib.Omega.{arith}
@@ -13,12 +13,11 @@ use Rattle.firmware.specs.declared.Made.the-variants.{Ready, Refused}
 use Rattle.firmware.specs.Handler.{Served, served, stateOf, handlerOf}
 use Rattle.image.specs.Image.{imageLength, validState, encodeOf}
 use Rattle.view.specs.View.{viewOf, noView}
-use Rattle.door.specs.Door.{setupIf, doorSetup, doorLook}
+use Rattle.door.specs.Door.{setupIf, doorSetup}
 use Rattle.doorkept.specs.Image.{setup-leaves}
-use Rattle.demands.specs.Calls.{setUp, readRegister, Host, answers, atDoor}
+use Rattle.demands.specs.Calls.{readRegister}
 use Rattle.demands.specs.Demands.{SetupRegisters}
-use Rattle.demands.specs.Laws.{image-is, on-state}
-use Rattle.demands.specs.DemandTwo.{imageHost, follows}
+use Rattle.demands.specs.DemandTwo.{image-is, on-state, follows}
 
 -- The state that an accepted setup makes.
 abbrev pub madeFor : ℕ → ℕ → State
