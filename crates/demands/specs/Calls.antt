@@ -126,18 +126,13 @@ abbrev pub ImageOfNone : List ℕ → Type 0
 ImageOfNone bytes = (s : State) → ImageOf s bytes → ⊥
 
 -- ---- the causes of the refusals
--- One entry for each, in the order in which they are looked at: 6, 1, 2, 3, 5, 4, 7.
-abbrev pub row {ℓ} : {A : Type ℓ} → A → A → A → A → A → A → A → Refusal → A
-row six one two three five four seven NoState = six
-row six one two three five four seven NoRegister = one
-row six one two three five four seven ReservedBit = two
-row six one two three five four seven NoMode = three
-row six one two three five four seven NoWindow = five
-row six one two three five four seven NoItem = four
-row six one two three five four seven PastRecord = seven
+pub record Cause : Type 1 where
+  pub why : Refusal
+  pub holds : Type 0
 
-abbrev pub order : List Refusal
-order = NoState ∷ NoRegister ∷ ReservedBit ∷ NoMode ∷ NoWindow ∷ NoItem ∷ PastRecord ∷ []
+infix 1 _when_
+abbrev pub _when_ : Refusal → Type 0 → Cause
+_when_ why holds = record { why = why; holds = holds }
 
 -- CON2 (3) with bits 4..1 not all 0, or CON3 (4) with BOEN.
 abbrev pub SetsReserved : ℕ → ℕ → Type 0
@@ -159,30 +154,33 @@ FitsNot h start n = (length (h .buffer) < start + n) ⊎ (SetUpFor n (h .state) 
 abbrev pub SomeAbove : ℕ → List ℕ → Type 0
 SomeAbove most items = (k : ℕ) × (k < length items) × (most < getD items k 0)
 
--- The table: which cause each call can have.
-abbrev pub cause : Host → DoorCall → Refusal → Type 0
-cause h (setUp add n) = row (length (h .state) ≡ imageLength → ⊥) ⊥ ⊥ ⊥ ((n ≡ 0) ⊎ (256 < n)) ⊥ ⊥
-cause h (readRegister number) = row (ImageOfNone (h .state)) (7 < number) ⊥ ⊥ ⊥ ⊥ ⊥
-cause h (writeRegister number value) =
-    row (ImageOfNone (h .state)) (7 < number) (SetsReserved number value) (SetsNoMode number value) ⊥ ⊥ ⊥
-cause h (feedSample level) = row (ImageOfNone (h .state)) ⊥ ⊥ ⊥ ⊥ (3 < level) ⊥
-cause h (callHandler start n) = row (ImageOfNone (h .state)) ⊥ ⊥ ⊥ (FitsNot h start n) ⊥ ⊥
-cause h (runTrace start n items) = row (ImageOfNone (h .state)) ⊥ ⊥ ⊥ (FitsNot h start n) (SomeAbove 4 items) ⊥
+-- The table: why each call is refused, in the order in which that is looked at.
+abbrev pub causes : Host → DoorCall → List Cause
+causes h (setUp add n) = (NoState when (length (h .state) ≡ imageLength → ⊥)) ∷ (NoWindow when (n ≡ 0) ⊎ (256 < n)) ∷ []
+causes h (readRegister number) = (NoState when ImageOfNone (h .state)) ∷ (NoRegister when 7 < number) ∷ []
+causes h (writeRegister number value) =
+    (NoState when ImageOfNone (h .state)) ∷ (NoRegister when 7 < number) ∷ (ReservedBit when SetsReserved number value)
+    ∷ (NoMode when SetsNoMode number value) ∷ []
+causes h (feedSample level) = (NoState when ImageOfNone (h .state)) ∷ (NoItem when 3 < level) ∷ []
+causes h (callHandler start n) = (NoState when ImageOfNone (h .state)) ∷ (NoWindow when FitsNot h start n) ∷ []
+causes h (runTrace start n items) =
+    (NoState when ImageOfNone (h .state)) ∷ (NoWindow when FitsNot h start n) ∷ (NoItem when SomeAbove 4 items) ∷ []
 
-abbrev pub lookCause : List ℕ → Refusal → Type 0
-lookCause bytes = row (ImageOfNone bytes) ⊥ ⊥ ⊥ ⊥ ⊥ ⊥
+abbrev pub lookCauses : List ℕ → List Cause
+lookCauses bytes = (NoState when ImageOfNone bytes) ∷ []
 
-abbrev pub findCause : List ℕ → ℕ → Refusal → Type 0
-findCause levels item = row ⊥ ⊥ ⊥ ⊥ ⊥ (SomeAbove 3 levels) (length levels ≤ item)
+abbrev pub findCauses : List ℕ → ℕ → List Cause
+findCauses levels item = (NoItem when SomeAbove 3 levels) ∷ (PastRecord when length levels ≤ item) ∷ []
 
--- The number of the first in the order whose cause holds, 0 where none does.
-abbrev pub Numbered : (Refusal → Type 0) → List Refusal → ℕ → Type 0
-Numbered given [] number = number ≡ 0
-Numbered given (next ∷ rest) number = ((number ≡ numberOf next) × given next) ⊎ ((given next → ⊥) × Numbered given rest number)
+-- The number of the first cause that holds, 0 where none does.
+abbrev pub Numbered : List Cause → ℕ → Type 0
+Numbered [] number = number ≡ 0
+Numbered (next ∷ rest) number =
+    ((number ≡ numberOf (next .why)) × next .holds) ⊎ ((next .holds → ⊥) × Numbered rest number)
 
 -- A number is answered exactly then.
-abbrev pub Exactly : ℕ → (Refusal → Type 0) → Type 0
-Exactly refusal given = (number : ℕ) → (refusal ≡ number) ↔ Numbered given order number
+abbrev pub Exactly : ℕ → List Cause → Type 0
+Exactly refusal list = (number : ℕ) → (refusal ≡ number) ↔ Numbered list number
 
 -- The first bad item, whose number stands beside refusal 4 of a run and of the finder.
 pub record FirstAbove (most : ℕ) (items : List ℕ) (k : ℕ) : Type 0 where
@@ -209,10 +207,6 @@ pub data Feeds (start n : ℕ) : List DoorCall → List ℕ → Type 0 where
   by-run : {items rest : List ℕ} {calls : List DoorCall} → Feeds start n calls rest → Feeds start n (runTrace start n items ∷ calls) (items ++ rest)
   by-sample : {level : ℕ} {rest : List ℕ} {calls : List DoorCall} → level ≤ 3 → Feeds start n calls rest → Feeds start n (feedSample level ∷ calls) (level ∷ rest)
   by-call : {rest : List ℕ} {calls : List DoorCall} → Feeds start n calls rest → Feeds start n (callHandler start n ∷ calls) (4 ∷ rest)
-
--- The call that does what one item asks for.
-abbrev pub callFor : ℕ → ℕ → ℕ → DoorCall
-callFor start n item = cond (ltb item 4) (feedSample item) (callHandler start n)
 
 -- An item of a trace as one of the joint run.
 abbrev pub jointItem : ℕ → JointItem

@@ -143,24 +143,6 @@ module _ (w : Served) where
         ap lends (on-state (lent (noState bytes) (w .bytes)) (λ t. ran bytes (runInOf t (w .bytes) start n items)) s v)
         ∙ ran-if start n items (windowFits (length (w .bytes)) start n (s .handler .n)) (ltb (firstBad items) (length items))
 
--- Bytes that are no state's image: 6, and nothing changes. Only a setup takes them.
-abbrev pub OnState : DoorCall → Type 0
-OnState (setUp add n) = ⊥
-OnState (readRegister number) = Unit {0}
-OnState (writeRegister number value) = Unit {0}
-OnState (feedSample level) = Unit {0}
-OnState (callHandler start n) = Unit {0}
-OnState (runTrace start n items) = Unit {0}
-
-no-call : (h : Host) (c : DoorCall) → OnState c → decodeOf (h .state) ≡ NoImage → atDoor h c ≡ reply (refused NoState 0) h
-unfolding byState
-no-call h (setUp add n) on e = absurd on
-no-call h (readRegister number) on e = rw e
-no-call h (writeRegister number value) on e = rw e
-no-call h (feedSample level) on e = rw e
-no-call h (callHandler start n) on e = rw e
-no-call h (runTrace start n items) on e = rw e
-
 -- Bytes are no state's image, or that of one.
 pub image-or-none :
     (bytes : List ℕ) → ((decodeOf bytes ≡ NoImage) × ImageOfNone bytes) ⊎ ((s : State) × (decodeOf bytes ≡ Valid s) × ImageOf s bytes)
@@ -170,12 +152,13 @@ image-or-none bytes = by (decodeOf bytes) refl
     by NoImage e = inl (e, λ s image. let z : _≡_ {A = ℕ} 0 1 = cc (decode-exactly bytes s .1 image) in absurd (omega arith))
     by (Valid s) e = inr (s, e, decode-exactly bytes s .0 e)
 
--- What holds of a call, where there is no state and on the state whose image the bytes are.
-pub by-image :
-    (h : Host) (c : DoorCall) → OnState c → (P : Reply Host → Type 0) → (ImageOfNone (h .state) → P (reply (refused NoState 0) h))
+-- What holds of a call that answers 6 where there is no state, and else works on the state whose image the bytes are.
+pub by-image {ℓ} :
+    (h : Host) (c : DoorCall) → (decodeOf (h .state) ≡ NoImage → atDoor h c ≡ reply (refused NoState 0) h) → (P : Reply Host → Type ℓ)
+    → (ImageOfNone (h .state) → P (reply (refused NoState 0) h))
     → ((s : State) → ImageOf s (h .state) → P (imageReply (byDefinition (served s (h .buffer)) c))) → P (atDoor h c)
-by-image h c on P p q =
-    ⊎-elim (λ k. subst P (sym (no-call h c on (k .0))) (p (k .1)))
+by-image h c six P p q =
+    ⊎-elim (λ k. subst P (sym (six (k .0))) (p (k .1)))
     (λ k.
     let w : Served = served (k .0) (h .buffer) in
     subst (λ (b : List ℕ). P (atDoor (host b (h .buffer)) c)) (k .2 .0)

@@ -16,7 +16,7 @@ use Rattle.door.specs.declared.Answer.{Answer}
 use Rattle.door.specs.declared.Part.{Part}
 use Rattle.door.specs.Outcome.{done}
 use Rattle.door.specs.Door.{doorLook, doorFind}
-use Rattle.demands.specs.Calls.{DoorCall, setUp, readRegister, callHandler, runTrace, Host, answers, leftAfter, Allows, atDoor, byDefinition, ImageOf, cause, lookCause, findCause, Exactly, SomeAbove, FirstAbove, OnlyBeside, Beside, Feeds, jointItem, firmware}
+use Rattle.demands.specs.Calls.{DoorCall, setUp, readRegister, callHandler, runTrace, Host, answers, leftAfter, Allows, atDoor, byDefinition, ImageOf, causes, lookCauses, findCauses, Exactly, SomeAbove, FirstAbove, OnlyBeside, Beside, Feeds, jointItem, firmware}
 
 -- ---- DEMAND 1: every call has one outcome, changes only what it may, and refuses by number, exactly for the causes of the table
 -- Only one answer fits a call's contract, with one state and one buffer. (What look and find answer is an equation as it stands.)
@@ -41,9 +41,9 @@ OutsideKept =
 -- Every refusal number is answered exactly for its cause, where none that is looked at before it holds.
 abbrev pub ExactCauses : Type 0
 ExactCauses =
-    ((h : Host) (c : DoorCall) → Exactly (atDoor h c .answer .refusal) (cause h c))
-    × ((bytes : List ℕ) → Exactly (doorLook bytes .refusal) (lookCause bytes))
-    × ((levels : List ℕ) (item : ℕ) → Exactly (doorFind levels item .refusal) (findCause levels item))
+    ((h : Host) (c : DoorCall) → Exactly (atDoor h c .answer .refusal) (causes h c))
+    × ((bytes : List ℕ) → Exactly (doorLook bytes .refusal) (lookCauses bytes))
+    × ((levels : List ℕ) (item : ℕ) → Exactly (doorFind levels item .refusal) (findCauses levels item))
 
 -- Beside refusal 4 of a run and of the finder stands the number of the first bad item, beside everything else 0.
 abbrev pub ItemBeside : Type 0

@@ -2,7 +2,3 @@ pub mod Calls
 pub mod Demands
 pub mod DemandTwo
 pub mod DemandOne
-pub mod SetupRegisters
-pub mod RunIsCalls
-pub mod DemandThree
-pub mod HandlerIsFirmware
