@@ -201,12 +201,22 @@ Beside (callHandler start n) item = item ≡ 0
 Beside (runTrace start n items) item = FirstAbove 4 items item
 
 -- ---- a trace through the door
--- Items fed in runs, in samples and handler calls, or in any mixture of them, over one window.
+-- Every byte is an item.
+abbrev pub AllItems : List ℕ → Type 0
+AllItems items = (k : ℕ) → k < length items → getD items k 0 ≤ 4
+
+-- The items that a call over one window asks for.
+pub data Asks (start n : ℕ) : DoorCall → List ℕ → Type 0 where
+  a-run : {items : List ℕ} → Asks start n (runTrace start n items) items
+  a-sample : {level : ℕ} → level ≤ 3 → Asks start n (feedSample level) (level ∷ [])
+  a-call : Asks start n (callHandler start n) (4 ∷ [])
+
+-- Items fed in one run, in several, in samples and handler calls, or in any mixture of these.
 pub data Feeds (start n : ℕ) : List DoorCall → List ℕ → Type 0 where
   nothing : Feeds start n [] []
-  by-run : {items rest : List ℕ} {calls : List DoorCall} → Feeds start n calls rest → Feeds start n (runTrace start n items ∷ calls) (items ++ rest)
-  by-sample : {level : ℕ} {rest : List ℕ} {calls : List DoorCall} → level ≤ 3 → Feeds start n calls rest → Feeds start n (feedSample level ∷ calls) (level ∷ rest)
-  by-call : {rest : List ℕ} {calls : List DoorCall} → Feeds start n calls rest → Feeds start n (callHandler start n ∷ calls) (4 ∷ rest)
+  one-more :
+      {c : DoorCall} {calls : List DoorCall} {items rest : List ℕ} → Asks start n c items → Feeds start n calls rest
+      → Feeds start n (c ∷ calls) (items ++ rest)
 
 -- An item of a trace as one of the joint run.
 abbrev pub jointItem : ℕ → JointItem

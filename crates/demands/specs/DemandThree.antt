@@ -1,21 +1,21 @@
 -- Set up, and fed through the door: the registers after setup; a run is the calls one after the other, however its items are fed;
 -- demand 3.
-use Prim.Native.Nat.{ℕ, _+_, _<_, _≤_}
+use Prim.Native.Nat.{ℕ, _+_, _≤_}
 use mathlib.Core.Path.{_≡_, refl, sym, ap, _∙_, subst}
 use mathlib.Core.Bool.{Bool, true, false, cond, _||_}
 use mathlib.Core.List.{List, [], _∷_, map, _++_}
 use native.Mathlib.Omega.{arith}
-use lib.Dec.{T, eqb, ltb, leb}
-use lib.ListN.{length, take, drop, getD, take-append-drop, length-append, length-drop, List·getD-append}
+use lib.Dec.{T, eqb, ltb}
+use lib.ListN.{length, take, drop, take-append-drop, length-append, length-drop, List·getD-append}
 use lib.Seq.{length-take-le, take-at, drop-at, getD-append-add}
-use borrow.Author.Tests.{ltb-false, lt-ltb, le-ltb, eq-eqb, le-leb, leb-true, leb-false}
+use borrow.Author.Tests.{ne-eqb, ltb-false, lt-ltb, le-ltb, eq-eqb, le-leb}
 use Rattle.truth.specs.Tests.{by-test}
 use Rattle.items.specs.Theorems.{before-first, first-only}
 use Rattle.refusals.specs.declared.Refusal.the-variants.{NoWindow}
 use Rattle.mssp.specs.Module.{setup}
 use Rattle.firmware.specs.declared.State.{State}
 use Rattle.firmware.specs.declared.Made.the-variants.{Ready, Refused}
-use Rattle.firmware.specs.Handler.{Served, served, stateOf, handlerOf, acknowledged, serve, calledIf, setupOf}
+use Rattle.firmware.specs.Handler.{Served, served, stateOf, handlerOf, acknowledged, serve, calledIf}
 use Rattle.firmware.specs.Window.{windowOf, splice, inBuffer}
 use Rattle.firmware.specs.Laws.{inside}
 use Rattle.steps.specs.declared.Item.{Item}
@@ -23,14 +23,14 @@ use Rattle.steps.specs.Step.{afterAll}
 use Rattle.trace.specs.Run.{firstBad, stepIf, stepOf, itemAt, runFrom, runOf}
 use Rattle.trace.specs.Theorems.{run-joined, run-length, window-length, SameOutside, splice-outside}
 use Rattle.agreement.specs.Joint.{Joint, step, run, afresh, Agrees}
-use Rattle.agreement.specs.Demand.{demand-three, begins-with-setup}
+use Rattle.agreement.specs.Demand.{demand-three}
 use Rattle.image.specs.Image.{imageLength, validState, encodeOf}
 use Rattle.view.specs.View.{viewOf, noView}
 use Rattle.door.specs.declared.Answer.{Answer}
 use Rattle.door.specs.Door.{setupIf, doorSetup}
 use Rattle.door.specs.Outcome.{byState, done}
 use Rattle.doorkept.specs.Image.{setup-leaves}
-use Rattle.demands.specs.Calls.{readRegister, DoorCall, feedSample, callHandler, runTrace, Host, host, Reply, reply, answers, leftAfter, atDoor, fits, inWindow, byDefinition, Feeds, nothing, by-run, by-sample, by-call, setUp, SomeAbove, jointItem}
+use Rattle.demands.specs.Calls.{DoorCall, setUp, readRegister, runTrace, Host, host, Reply, reply, answers, leftAfter, atDoor, fits, inWindow, byDefinition, AllItems, Asks, a-run, a-sample, a-call, Feeds, nothing, one-more, jointItem}
 use Rattle.demands.specs.Demands.{SetupRegisters, RunIsCalls, DemandThree}
 use Rattle.demands.specs.DemandTwo.{image-is, on-state, follows, imageHost, by-image, Follows}
 
@@ -106,11 +106,8 @@ unfolding afterAll
 run-n s bytes [] = refl
 run-n s bytes (x ∷ xs) = run-n (stepOf s bytes x .state) (stepOf s bytes x .bytes) xs ∙ step-n (ltb x 4) (eqb x 4) s bytes x
 
--- Every item is one
-abbrev pub AllItems : List ℕ → Type 0
-AllItems items = (k : ℕ) → k < length items → getD items k 0 ≤ 4
-
-pub none-bad : (items : List ℕ) → AllItems items → ltb (firstBad items) (length items) ≡ false
+-- Every item is one.
+none-bad : (items : List ℕ) → AllItems items → ltb (firstBad items) (length items) ≡ false
 none-bad items good =
     let e = first-only 4 items (length items) (omega arith) good (λ h. absurd (omega arith)) in
     le-ltb (firstBad items) (length items) (omega arith)
@@ -122,7 +119,7 @@ module _ (xs ys : List ℕ) (good : AllItems (xs ++ ys)) where
   good-first : AllItems xs
   good-first k h = rw (← List·getD-append xs ys 0 k h) (good k (simp length-append (omega arith)))
 
-  pub good-rest : AllItems ys
+  good-rest : AllItems ys
   good-rest k h = rw (← getD-append-add xs ys k 0) (good (length xs + k) (simp length-append (omega arith)))
 
 -- Items in a window of the buffer, and the rest of them in the same window
@@ -157,41 +154,27 @@ module _ (start n : ℕ) where
     pub answered : answers byDefinition w calls ≡ map (λ c. done 0) calls
     pub left : leftAfter byDefinition w calls ≡ ranOn w items
 
-  fed-next :
-      (w : Served) → fits w start n ≡ true → (c : DoorCall) (xs : List ℕ) {calls : List DoorCall} {ys : List ℕ}
-      → byDefinition w c ≡ reply (done 0) (ranOn w xs) → Fed (ranOn w xs) calls ys → Fed w (c ∷ calls) (xs ++ ys)
-  fed-next w f c xs {calls} {ys} e rest =
-      record {
-        answered =
-            ap (λ (r : Reply Served). r .answer ∷ answers byDefinition (r .left) calls) e
-            ∙ ap (λ (more : List Answer). done 0 ∷ more) (rest .answered);
-        left = ap (λ (r : Reply Served). leftAfter byDefinition (r .left) calls) e ∙ rest .left ∙ ran-on w f xs ys;
-      }
-
-  by-samples : (w : Served) (level : ℕ) → level ≤ 3 → byDefinition w (feedSample level) ≡ reply (done 0) (ranOn w (level ∷ []))
+  asked :
+      {c : DoorCall} {items : List ℕ} → Asks start n c items → (w : Served) → fits w start n ≡ true → AllItems items
+      → byDefinition w c ≡ reply (done 0) (ranOn w items)
   unfolding afterAll
-  by-samples w level h = rw (lt-ltb level 4 (omega arith), splice-own start n (w .bytes))
+  asked (a-run {items = items}) w f good = rw (f, none-bad items good)
+  asked (a-sample {level = level} h) w f good = rw (lt-ltb level 4 (omega arith), splice-own start n (w .bytes))
+  asked a-call w f good = rw f
 
-  by-calls : (w : Served) → fits w start n ≡ true → byDefinition w (callHandler start n) ≡ reply (done 0) (ranOn w (4 ∷ []))
-  by-calls w f = rw f
-
-  by-runs :
-      (w : Served) (items : List ℕ) → fits w start n ≡ true → AllItems items
-      → byDefinition w (runTrace start n items) ≡ reply (done 0) (ranOn w items)
-  by-runs w items f good = rw (f, none-bad items good)
-
-  pub fed :
+  fed :
       {calls : List DoorCall} {items : List ℕ} → Feeds start n calls items → (w : Served) → fits w start n ≡ true → AllItems items
       → Fed w calls items
   fed nothing w f good = record { answered = refl; left = ran-none w }
-  fed (by-run {items = xs} {rest = ys} more) w f good =
-      fed-next w f (runTrace start n xs) xs (by-runs w xs f (good-first xs ys good))
-      (fed more (ranOn w xs) (ran-fits w f xs) (good-rest xs ys good))
-  fed (by-sample {level = x} {rest = ys} h more) w f good =
-      fed-next w f (feedSample x) (x ∷ []) (by-samples w x h) (fed more (ranOn w (x ∷ [])) (ran-fits w f (x ∷ [])) (good-rest (x ∷ []) ys good))
-  fed (by-call {rest = ys} more) w f good =
-      fed-next w f (callHandler start n) (4 ∷ []) (by-calls w f)
-      (fed more (ranOn w (4 ∷ [])) (ran-fits w f (4 ∷ [])) (good-rest (4 ∷ []) ys good))
+  fed (one-more {c = c} {calls = calls} {items = xs} {rest = ys} asks more) w f good =
+      let e = asked asks w f (good-first xs ys good) in
+      let rest = fed more (ranOn w xs) (ran-fits w f xs) (good-rest xs ys good) in
+      record {
+        answered =
+            ap (λ (r : Reply Served). r .answer ∷ answers byDefinition (r .left) calls) e
+            ∙ ap (λ (answers : List Answer). done 0 ∷ answers) (rest .answered);
+        left = ap (λ (r : Reply Served). leftAfter byDefinition (r .left) calls) e ∙ rest .left ∙ ran-on w f xs ys;
+      }
 
   -- At the door.
   pub was-run :
@@ -212,7 +195,7 @@ run-is-calls start n h calls items feeds =
     let k = was-run start n w (map itemAt items) (fits w start n) (ltb (firstBad items) (length items)) (firstBad items) e in
     let parts = fed start n feeds w (k .0) (all-good items (k .1)) in
     let all = follows w calls (image .1) in
-    let whole = by-runs start n w items (k .0) (all-good items (k .1)) in
+    let whole = asked start n a-run w (k .0) (all-good items (k .1)) in
     subst
     (λ (b : List ℕ). (answers atDoor (host b (h .buffer)) calls ≡ map (λ c. done 0) calls) × (leftAfter atDoor (host b (h .buffer)) calls ≡ imageHost (byDefinition w (runTrace start n items) .left)))
     (image .0) (all .answered ∙ parts .answered, all .left ∙ ap imageHost (parts .left ∙ sym (ap (λ (r : Reply Served). r .left) whole))))
@@ -238,21 +221,15 @@ module _ (n add : ℕ) where
       ap (λ (w : Served). runFrom w xs) (joint-step j x (good 0 (omega arith)))
       ∙ joint-run (step n add j (jointItem x)) xs (good-rest (x ∷ []) xs good)
 
-none-above : (items : List ℕ) → (SomeAbove 4 items → ⊥) → AllItems items
-none-above items none k h =
-    by-test (leb (getD items k 0) 4) (λ t. leb-true (getD items k 0) 4 t) (λ t. absurd (none (k, h, leb-false (getD items k 0) 4 t)))
-
 -- A setup with a length of 1 to 256 is accepted, and makes the state that the joint run begins with.
 setup-begins :
-    (add n : ℕ) (h : Host) (window : List ℕ) → length window ≡ n → length (h .state) ≡ imageLength → 1 ≤ n → n ≤ 256
+    (add n : ℕ) (h : Host) → length (h .state) ≡ imageLength → 1 ≤ n → n ≤ 256
     → atDoor h (setUp add n) ≡ reply (done 0) (imageHost (served (madeFor add n) (h .buffer)))
-setup-begins add n h window size long low high =
-    let made : setupOf add n ≡ Ready (madeFor add n) =
-    subst (λ (k : ℕ). setupOf add k ≡ Ready (madeFor add k)) size (begins-with-setup add window (omega arith) (omega arith)) in
-    rw (eq-eqb (length (h .state)) imageLength long, made)
+setup-begins add n h long low high =
+    rw (eq-eqb (length (h .state)) imageLength long, ne-eqb n 0 (λ e. omega arith), le-ltb 256 n high)
 
 pub demand-three-at-door : DemandThree
-demand-three-at-door add start n h calls items long low high inside feeds none = (
+demand-three-at-door add start n h calls items long low high inside feeds good = (
   ap (λ (r : Reply Host). r .answer ∷ answers atDoor (r .left) calls) begins
       ∙ ap (λ (more : List Answer). done 0 ∷ more) (all-follow .answered ∙ all-fed .answered),
   (sym (ap (λ (x : Host). x .state) left), rw defined at (all-follow .valid)),
@@ -267,14 +244,11 @@ demand-three-at-door add start n h calls items long low high inside feeds none =
     sized : length window ≡ n
     sized = window-length start n (h .buffer) inside
 
-    good : AllItems items
-    good = none-above items none
-
     begun : Served
     begun = served (madeFor add n) (h .buffer)
 
     begins : atDoor h (setUp add n) ≡ reply (done 0) (imageHost begun)
-    begins = setup-begins add n h window sized long low high
+    begins = setup-begins add n h long low high
 
     fitting : fits begun start n ≡ true
     fitting = rw (le-leb (start + n) (length (h .buffer)) inside, eq-eqb n n refl)

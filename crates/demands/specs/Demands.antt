@@ -16,7 +16,7 @@ use Rattle.door.specs.declared.Answer.{Answer}
 use Rattle.door.specs.declared.Part.{Part}
 use Rattle.door.specs.Outcome.{done}
 use Rattle.door.specs.Door.{doorLook, doorFind}
-use Rattle.demands.specs.Calls.{DoorCall, setUp, readRegister, callHandler, runTrace, Host, answers, leftAfter, Allows, atDoor, byDefinition, ImageOf, causes, lookCauses, findCauses, Exactly, SomeAbove, FirstAbove, OnlyBeside, Beside, Feeds, jointItem, firmware}
+use Rattle.demands.specs.Calls.{DoorCall, setUp, readRegister, callHandler, runTrace, Host, answers, leftAfter, Allows, atDoor, byDefinition, ImageOf, causes, lookCauses, findCauses, Exactly, FirstAbove, OnlyBeside, Beside, AllItems, Feeds, jointItem, firmware}
 
 -- ---- DEMAND 1: every call has one outcome, changes only what it may, and refuses by number, exactly for the causes of the table
 -- Only one answer fits a call's contract, with one state and one buffer. (What look and find answer is an equation as it stands.)
@@ -77,7 +77,7 @@ DemandTwo =
 abbrev pub DemandThree : Type 0
 DemandThree =
     (add start n : ℕ) (h : Host) (calls : List DoorCall) (items : List ℕ) → length (h .state) ≡ imageLength → 1 ≤ n → n ≤ 256
-    → start + n ≤ length (h .buffer) → Feeds start n calls items → (SomeAbove 4 items → ⊥)
+    → start + n ≤ length (h .buffer) → Feeds start n calls items → AllItems items
     → let after : Host = leftAfter atDoor h (setUp add n ∷ calls) in
     let joint : Joint = run n add (afresh add (windowOf start n (h .buffer))) (map jointItem items) in
     (answers atDoor h (setUp add n ∷ calls) ≡ map (λ c. done 0) (setUp add n ∷ calls))
