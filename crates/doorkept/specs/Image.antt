@@ -164,7 +164,7 @@ stays-if :
 stays-if zero value item keeps leaves image = leaves (omega arith)
 stays-if (suc refusal) value item keeps leaves image = rw (keeps (omega arith)) image
 
-stays : {bytes : List ℕ} (o : Outcome) → Keeps bytes o → Leaves o → Image bytes → Image (o .state)
+pub stays : {bytes : List ℕ} (o : Outcome) → Keeps bytes o → Leaves o → Image bytes → Image (o .state)
 stays o keeps leaves image = stays-if (o .answer .refusal) (o .answer .value) (o .answer .item) keeps leaves image
 
 module _ (bytes : List ℕ) (image : Image bytes) where

@@ -101,7 +101,7 @@ pub record SameOutside (start n : ℕ) (before after : List ℕ) : Type 0 where
   pub below : take start after ≡ take start before
   pub above : drop (start + n) after ≡ drop (start + n) before
 
-splice-outside :
+pub splice-outside :
     (start n : ℕ) (bytes buffer : List ℕ) → start + n ≤ length buffer → length bytes ≡ n
     → SameOutside start n buffer (splice start n bytes buffer)
 splice-outside start n bytes buffer h e =
@@ -114,7 +114,7 @@ splice-outside start n bytes buffer h e =
           ∙ rw (drop-at (take start buffer) (bytes ++ behind) start front, drop-at bytes behind n e) (drop-drop n start buffer);
     }
 
-window-length : (start n : ℕ) (buffer : List ℕ) → start + n ≤ length buffer → length (windowOf start n buffer) ≡ n
+pub window-length : (start n : ℕ) (buffer : List ℕ) → start + n ≤ length buffer → length (windowOf start n buffer) ≡ n
 window-length start n buffer h = length-take-le n (drop start buffer) (simp length-drop (omega arith))
 
 outside-if :

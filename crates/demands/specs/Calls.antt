@@ -1,0 +1,255 @@
+-- The words of the demands: a host's call, what it answers and leaves at the door and by the definitions, and the causes of each
+-- refusal (01, "Calls, refusals and their order").
+use Prim.Native.Nat.{ℕ, _+_, _/_, _%_, _<_, _≤_}
+use mathlib.Core.Logic.{_⊎_, _↔_}
+use mathlib.Core.Path.{_≡_}
+use mathlib.Core.Bool.{Bool, true, false, cond}
+use mathlib.Core.List.{List, [], _∷_, _++_, map}
+use lib.Dec.{T, ltb}
+use lib.ListN.{length, getD}
+use Rattle.refusals.specs.declared.Refusal.{Refusal}
+use Rattle.refusals.specs.declared.Refusal.the-variants.{NoState, NoRegister, ReservedBit, NoMode, NoWindow, NoItem, PastRecord}
+use Rattle.refusals.specs.declared.Verdict.{Verdict}
+use Rattle.refusals.specs.declared.Verdict.the-variants.{Done, Refused}
+use Rattle.refusals.specs.Numbers.{numberOf}
+use Rattle.wire.specs.Byte.{bit}
+use Rattle.wire.specs.Wire.{sclOf, sdaOf}
+use Rattle.mssp.specs.declared.Module.{Module}
+use Rattle.registers.specs.Values.{readOf}
+use Rattle.writes.specs.Writes.{writeOf}
+use Rattle.firmware.specs.declared.State.{State}
+use Rattle.firmware.specs.declared.Made.{Made}
+use Rattle.firmware.specs.declared.Made.the-variants.{Ready, Refused as NotMade}
+use Rattle.firmware.specs.Handler.{Served, served, setupOf}
+use Rattle.firmware.specs.Window.{windowFits, inBuffer}
+use Rattle.steps.specs.declared.Item.{Item}
+use Rattle.steps.specs.declared.Item.the-variants.{Call, Read, Write}
+use Rattle.steps.specs.Step.{Stepped, stepOf, afterAll}
+use Rattle.trace.specs.Run.{firstBad, itemIf, itemAt}
+use Rattle.agreement.specs.Joint.{Item as JointItem, sample as jointSample, call as jointCall}
+use Rattle.image.specs.Image.{imageLength, validState, encodeOf}
+use Rattle.door.specs.declared.Answer.{Answer}
+use Rattle.door.specs.Outcome.{Lent, outcome, lent, done, refused}
+use Rattle.door.specs.Door.{doorSetup, doorRead, doorWrite, doorSample, doorCall, doorRun}
+
+-- ---- a host's calls, over the bytes of one state and one buffer
+pub data DoorCall : Type 0 where
+  setUp : (add n : ℕ) → DoorCall
+  readRegister : (number : ℕ) → DoorCall
+  writeRegister : (number value : ℕ) → DoorCall
+  feedSample : (level : ℕ) → DoorCall
+  callHandler : (start n : ℕ) → DoorCall
+  runTrace : (start n : ℕ) (items : List ℕ) → DoorCall
+
+-- What a host lends.
+pub record Host : Type 0 where
+  pub state : List ℕ
+  pub buffer : List ℕ
+
+abbrev pub host : List ℕ → List ℕ → Host
+host state buffer = record { state = state; buffer = buffer }
+
+-- What a call answers, and what it leaves of what it worked on.
+pub record Reply (W : Type 0) : Type 0 where
+  pub answer : Answer
+  pub left : W
+
+abbrev pub reply : {W : Type 0} → Answer → W → Reply W
+reply answer left = record { answer = answer; left = left }
+
+-- Calls one after the other, each on what the one before it left: all their answers, and what is left at the end.
+abbrev pub answers : {W : Type 0} → (W → DoorCall → Reply W) → W → List DoorCall → List Answer
+answers work w [] = []
+answers work w (c ∷ calls) = work w c .answer ∷ answers work (work w c .left) calls
+
+abbrev pub leftAfter : {W : Type 0} → (W → DoorCall → Reply W) → W → List DoorCall → W
+leftAfter work w [] = w
+leftAfter work w (c ∷ calls) = leftAfter work (work w c .left) calls
+
+-- ---- at the door: what the contract of each exported function says; only a handler call and a run are lent the buffer
+abbrev pub contract : Host → DoorCall → Lent
+contract h (setUp add n) = lent (doorSetup (h .state) add n) (h .buffer)
+contract h (readRegister number) = lent (doorRead (h .state) number) (h .buffer)
+contract h (writeRegister number value) = lent (doorWrite (h .state) number value) (h .buffer)
+contract h (feedSample level) = lent (doorSample (h .state) level) (h .buffer)
+contract h (callHandler start n) = doorCall (h .state) (h .buffer) start n
+contract h (runTrace start n items) = doorRun (h .state) (h .buffer) start n items
+
+-- What a call's contract allows it to answer and leave.
+abbrev pub Allows : Host → DoorCall → Answer → Host → Type 0
+Allows before c answer after = lent (outcome answer (after .state)) (after .buffer) ≡ contract before c
+
+abbrev pub atDoor : Host → DoorCall → Reply Host
+atDoor h c =
+    let o : Lent = contract h c in
+    reply (o .outcome .answer) (host (o .outcome .state) (o .buffer))
+
+-- ---- by the definitions: one step for each item, on a state and the whole buffer
+abbrev pub told : Verdict → Answer
+told (Done value) = done value
+told (Refused why) = refused why 0
+
+abbrev pub stepBy : Served → Item → Reply Served
+stepBy w item =
+    let step : Stepped = stepOf (w .state) (w .bytes) item in
+    reply (told (step .verdict)) (step .left)
+
+-- Items in a window of the buffer: 5 where the window does not fit, then 4 with the first bad item's number.
+abbrev pub inWindow : Bool → Bool → ℕ → Served → ℕ → ℕ → List Item → Reply Served
+inWindow false bad item w start n items = reply (refused NoWindow 0) w
+inWindow true true item w start n items = reply (refused NoItem item) w
+inWindow true false item w start n items =
+    reply (done 0) (inBuffer (λ window. afterAll (served (w .state) window) items) (w .bytes) start n)
+
+-- The window lies inside the buffer and has the setup's length.
+abbrev pub fits : Served → ℕ → ℕ → Bool
+fits w start n = windowFits (length (w .bytes)) start n (w .state .handler .n)
+
+abbrev pub madeOf : Made → Served → Reply Served
+madeOf (Ready s) w = reply (done 0) (served s (w .bytes))
+madeOf (NotMade why) w = reply (refused why 0) w
+
+abbrev pub byDefinition : Served → DoorCall → Reply Served
+byDefinition w (setUp add n) = madeOf (setupOf add n) w
+byDefinition w (readRegister number) = stepBy w (Read number)
+byDefinition w (writeRegister number value) = stepBy w (Write number value)
+byDefinition w (feedSample level) = stepBy w (itemIf (ltb level 4) false level)
+byDefinition w (callHandler start n) = inWindow (fits w start n) false 0 w start n (Call ∷ [])
+byDefinition w (runTrace start n items) =
+    inWindow (fits w start n) (ltb (firstBad items) (length items)) (firstBad items) w start n (map itemAt items)
+
+-- ---- the image of a state, and bytes that are no state's
+abbrev pub ImageOf : State → List ℕ → Type 0
+ImageOf s bytes = (encodeOf s ≡ bytes) × T (validState s)
+
+abbrev pub ImageOfNone : List ℕ → Type 0
+ImageOfNone bytes = (s : State) → ImageOf s bytes → ⊥
+
+-- ---- the causes of the refusals
+pub record Cause : Type 1 where
+  pub why : Refusal
+  pub holds : Type 0
+
+infix 1 _when_
+abbrev pub _when_ : Refusal → Type 0 → Cause
+_when_ why holds = record { why = why; holds = holds }
+
+-- CON2 (3) with bits 4..1 not all 0, or CON3 (4) with BOEN.
+abbrev pub SetsReserved : ℕ → ℕ → Type 0
+SetsReserved number value = ((number ≡ 3) × (value / 2 % 16 ≡ 0 → ⊥)) ⊎ ((number ≡ 4) × (bit 4 value ≡ true))
+
+-- CON1 (2) with SSPEN 1 and SSPM neither 0110 nor 1110.
+abbrev pub SetsNoMode : ℕ → ℕ → Type 0
+SetsNoMode number value =
+    (number ≡ 2) × (bit 5 value ≡ true) × (value % 16 ≡ 0b0110 → ⊥) × (value % 16 ≡ 0b1110 → ⊥)
+
+-- A window that is not inside its buffer, or whose length is not the setup's.
+abbrev pub SetUpFor : ℕ → List ℕ → Type 0
+SetUpFor n bytes = (s : State) × ImageOf s bytes × (s .handler .n ≡ n)
+
+abbrev pub FitsNot : Host → ℕ → ℕ → Type 0
+FitsNot h start n = (length (h .buffer) < start + n) ⊎ (SetUpFor n (h .state) → ⊥)
+
+-- A byte above the largest that there is.
+abbrev pub SomeAbove : ℕ → List ℕ → Type 0
+SomeAbove most items = (k : ℕ) × (k < length items) × (most < getD items k 0)
+
+-- The table: why each call is refused, in the order in which that is looked at.
+abbrev pub causes : Host → DoorCall → List Cause
+causes h (setUp add n) = (NoState when (length (h .state) ≡ imageLength → ⊥)) ∷ (NoWindow when (n ≡ 0) ⊎ (256 < n)) ∷ []
+causes h (readRegister number) = (NoState when ImageOfNone (h .state)) ∷ (NoRegister when 7 < number) ∷ []
+causes h (writeRegister number value) =
+    (NoState when ImageOfNone (h .state)) ∷ (NoRegister when 7 < number) ∷ (ReservedBit when SetsReserved number value)
+    ∷ (NoMode when SetsNoMode number value) ∷ []
+causes h (feedSample level) = (NoState when ImageOfNone (h .state)) ∷ (NoItem when 3 < level) ∷ []
+causes h (callHandler start n) = (NoState when ImageOfNone (h .state)) ∷ (NoWindow when FitsNot h start n) ∷ []
+causes h (runTrace start n items) =
+    (NoState when ImageOfNone (h .state)) ∷ (NoWindow when FitsNot h start n) ∷ (NoItem when SomeAbove 4 items) ∷ []
+
+abbrev pub lookCauses : List ℕ → List Cause
+lookCauses bytes = (NoState when ImageOfNone bytes) ∷ []
+
+abbrev pub findCauses : List ℕ → ℕ → List Cause
+findCauses levels item = (NoItem when SomeAbove 3 levels) ∷ (PastRecord when length levels ≤ item) ∷ []
+
+-- The number of the first cause that holds, 0 where none does.
+abbrev pub Numbered : List Cause → ℕ → Type 0
+Numbered [] number = number ≡ 0
+Numbered (next ∷ rest) number =
+    ((number ≡ numberOf (next .why)) × next .holds) ⊎ ((next .holds → ⊥) × Numbered rest number)
+
+-- A number is answered exactly then.
+abbrev pub Exactly : ℕ → List Cause → Type 0
+Exactly refusal list = (number : ℕ) → (refusal ≡ number) ↔ Numbered list number
+
+-- The first bad item, whose number stands beside refusal 4 of a run and of the finder.
+pub record FirstAbove (most : ℕ) (items : List ℕ) (k : ℕ) : Type 0 where
+  pub within : k < length items
+  pub above : most < getD items k 0
+  pub before : (i : ℕ) → i < k → getD items i 0 ≤ most
+
+-- It stands there and nowhere else.
+abbrev pub OnlyBeside : ℕ → Type 0 → ℕ → Type 0
+OnlyBeside refusal named item = (refusal ≡ numberOf NoItem → named) × ((refusal ≡ numberOf NoItem → ⊥) → item ≡ 0)
+
+abbrev pub Beside : DoorCall → ℕ → Type 0
+Beside (setUp add n) item = item ≡ 0
+Beside (readRegister number) item = item ≡ 0
+Beside (writeRegister number value) item = item ≡ 0
+Beside (feedSample level) item = item ≡ 0
+Beside (callHandler start n) item = item ≡ 0
+Beside (runTrace start n items) item = FirstAbove 4 items item
+
+-- ---- a trace through the door
+-- Every byte is an item.
+abbrev pub AllItems : List ℕ → Type 0
+AllItems items = (k : ℕ) → k < length items → getD items k 0 ≤ 4
+
+-- The items that a call over one window asks for.
+pub data Asks (start n : ℕ) : DoorCall → List ℕ → Type 0 where
+  a-run : {items : List ℕ} → Asks start n (runTrace start n items) items
+  a-sample : {level : ℕ} → level ≤ 3 → Asks start n (feedSample level) (level ∷ [])
+  a-call : Asks start n (callHandler start n) (4 ∷ [])
+
+-- Items fed in one run, in several, in samples and handler calls, or in any mixture of these.
+pub data Feeds (start n : ℕ) : List DoorCall → List ℕ → Type 0 where
+  nothing : Feeds start n [] []
+  one-more :
+      {c : DoorCall} {calls : List DoorCall} {items rest : List ℕ} → Asks start n c items → Feeds start n calls rest
+      → Feeds start n (c ∷ calls) (items ++ rest)
+
+-- An item of a trace as one of the joint run.
+abbrev pub jointItem : ℕ → JointItem
+jointItem item = cond (ltb item 4) (jointSample (sclOf item) (sdaOf item)) jointCall
+
+-- ---- a firmware: register accesses and nothing else
+-- What a register shows; what a read and a write of it leave.
+abbrev pub shown : Verdict → ℕ
+shown (Done value) = value
+shown (Refused why) = 0
+
+abbrev pub shows : ℕ → Module → ℕ
+shows number m = shown (readOf m number .verdict)
+
+abbrev pub reading : ℕ → Module → Module
+reading number m = readOf m number .mssp
+
+abbrev pub writing : ℕ → ℕ → Module → Module
+writing number value m = writeOf m number value .mssp
+
+-- CON1 (2) is written with what it holds and CKP (bit 4) 1.
+abbrev pub settingCKP : Module → Module
+settingCKP m = let held : ℕ = shows 2 m in writing 2 (cond (bit 4 held) held (held + 16)) m
+
+-- What is done by SSPIF, CKP, R/W and D/A: the flag (7) is written 0; BUF (0) is read, or written with the byte at the pointer,
+-- after a read address both; last, CKP 1.
+abbrev pub firmwareIf : Bool → Bool → Bool → Bool → ℕ → Module → Module
+firmwareIf false ckp rw da byte m = m
+firmwareIf true true rw da byte m = writing 7 0 m
+firmwareIf true false false da byte m = settingCKP (reading 0 (writing 7 0 m))
+firmwareIf true false true false byte m = settingCKP (writing 0 byte (reading 0 (writing 7 0 m)))
+firmwareIf true false true true byte m = settingCKP (writing 0 byte (writing 7 0 m))
+
+-- The four bits as the registers show them: flag (7), CON1 (2) and STAT (1).
+abbrev pub firmware : ℕ → Module → Module
+firmware byte m = firmwareIf (bit 0 (shows 7 m)) (bit 4 (shows 2 m)) (bit 2 (shows 1 m)) (bit 5 (shows 1 m)) byte m

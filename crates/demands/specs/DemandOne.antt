@@ -1,0 +1,392 @@
+-- Demand 1: one outcome for every call, nothing changed that may not be, and refusals exactly for their causes.
+use Prim.Native.Nat.{ℕ, zero, suc, _+_, _*_, _/_, _%_, _<_, _≤_}
+use mathlib.Core.Logic.{_⊎_, inl, inr, ⊎-elim, _↔_}
+use mathlib.Core.Path.{_≡_, refl, sym, ap, ap₂, subst, _∙_}
+use mathlib.Core.Bool.{Bool, true, false, true≢false, cond, _&&_, _||_, not, and-false}
+use mathlib.Core.List.{List, [], _∷_, map}
+use native.Mathlib.Omega.{arith}
+use native.Mathlib.Nat.{div-one, div-div-eq-div-mul}
+use lib.Dec.{eqb, leb, ltb}
+use lib.ListN.{length}
+use borrow.Author.Tests.{eqb-true, eqb-false, eq-eqb, ne-eqb, leb-false, lt-leb, ltb-true, ltb-false, lt-ltb, le-ltb, not-true}
+use Rattle.truth.specs.Tests.{never, by-test, and-first, and-second}
+use Rattle.items.specs.First.{firstAbove}
+use Rattle.items.specs.Theorems.{before-first, at-first}
+use Rattle.refusals.specs.declared.Refusal.{Refusal}
+use Rattle.refusals.specs.declared.Refusal.the-variants.{NoState, ReservedBit, NoMode, NoWindow, NoItem}
+use Rattle.refusals.specs.declared.Verdict.{Verdict}
+use Rattle.refusals.specs.declared.Verdict.the-variants.{Done, Refused}
+use Rattle.refusals.specs.Numbers.{numberOf}
+use Rattle.wire.specs.Byte.{bit}
+use Rattle.mssp.specs.Module.{modelled, setup}
+use Rattle.registers.specs.declared.Register.{Register}
+use Rattle.registers.specs.declared.Register.the-variants.{Buf, Stat, Con1, Con2, Con3, Add, Msk, Flag, Nowhere}
+use Rattle.registers.specs.Values.{registerOf, valueOf, readVerdict, readOf}
+use Rattle.writes.specs.Writes.{verdictOf, writeOf}
+use Rattle.firmware.specs.declared.State.{State}
+use Rattle.firmware.specs.declared.Made.the-variants.{Ready, Refused as NotMade}
+use Rattle.firmware.specs.Handler.{Served, served, stateOf, handlerOf}
+use Rattle.firmware.specs.Window.{windowOf}
+use Rattle.firmware.specs.Laws.{inside}
+use Rattle.steps.specs.declared.Item.{Item}
+use Rattle.steps.specs.declared.Item.the-variants.{Call}
+use Rattle.steps.specs.Step.{stepOf}
+use Rattle.trace.specs.Run.{firstBad, itemIf, itemAt, runOf}
+use Rattle.trace.specs.Theorems.{SameOutside, run-length, window-length, splice-outside}
+use Rattle.found.specs.declared.Found.{Found}
+use Rattle.found.specs.declared.Found.the-variants.{Part, Refused as NotFound}
+use Rattle.found.specs.Numbers.{refusalOf, itemOf, startOf, lengthOf}
+use Rattle.finder.specs.declared.Place.{Place}
+use Rattle.finder.specs.declared.Place.the-variants.{Outside, Inside}
+use Rattle.finder.specs.Messages.{placeAt, endAt}
+use Rattle.finder.specs.Find.{firstBad as firstBadLevel, partFrom, spanIf, spanOf}
+use Rattle.image.specs.declared.Decoded.the-variants.{NoImage}
+use Rattle.image.specs.Image.{imageLength, decodeOf}
+use Rattle.image.specs.Theorems.{encode-injective}
+use Rattle.door.specs.declared.Answer.{Answer}
+use Rattle.door.specs.declared.Part.{Part as Parted}
+use Rattle.door.specs.Outcome.{refused, byState}
+use Rattle.door.specs.Door.{setupIf, doorLook, doorFind}
+use Rattle.door.specs.Theorems.{one-lent, setup-keeps, read-keeps, write-keeps, sample-keeps, call-keeps, run-keeps}
+use Rattle.demands.specs.Calls.{DoorCall, setUp, readRegister, writeRegister, feedSample, callHandler, runTrace, Host, host, reply, atDoor, told, inWindow, fits, byDefinition, ImageOf, ImageOfNone, SetsReserved, SetsNoMode, SetUpFor, FitsNot, SomeAbove, Cause, _when_, causes, lookCauses, findCauses, Numbered, FirstAbove, OnlyBeside, Beside}
+use Rattle.demands.specs.Demands.{OneOutcome, RefusedKeeps, OutsideKept, ExactCauses, ItemBeside, DemandOne}
+use Rattle.demands.specs.DemandTwo.{image-or-none, by-image}
+
+pub one-outcome : OneOutcome
+one-outcome before c r t a b e f = let one = one-lent e f in (one .0, ap₂ host (one .1) (one .2))
+
+-- ---- refused, nothing changes
+keeps : (h : Host) (c : DoorCall) → 0 < atDoor h c .answer .refusal → atDoor h c .left ≡ h
+keeps h (setUp add n) l = ap (λ (b : List ℕ). host b (h .buffer)) (setup-keeps (h .state) add n l)
+keeps h (readRegister number) l = ap (λ (b : List ℕ). host b (h .buffer)) (read-keeps (h .state) number l)
+keeps h (writeRegister number value) l = ap (λ (b : List ℕ). host b (h .buffer)) (write-keeps (h .state) number value l)
+keeps h (feedSample level) l = ap (λ (b : List ℕ). host b (h .buffer)) (sample-keeps (h .state) level l)
+keeps h (callHandler start n) l = let k = call-keeps (h .state) (h .buffer) start n l in ap₂ host (k .0) (k .1)
+keeps h (runTrace start n items) l = let k = run-keeps (h .state) (h .buffer) start n items l in ap₂ host (k .0) (k .1)
+
+empty-part : (found : Found) → 0 < refusalOf found → (startOf found ≡ 0) × (lengthOf found ≡ 0)
+empty-part (Part start count) l = absurd (omega arith)
+empty-part (NotFound why item) l = (refl, refl)
+
+pub refused-keeps : RefusedKeeps
+refused-keeps = (keeps, λ levels item. empty-part (spanOf levels item))
+
+-- ---- outside the window
+outside-if :
+    (w : Served) (start n : ℕ) (trace : List ℕ) (f bad : Bool) (item : ℕ) → f ≡ fits w start n
+    → SameOutside start n (w .bytes) (inWindow f bad item w start n (map itemAt trace) .left .bytes)
+outside-if w start n trace false bad item e = record { below = refl; above = refl }
+outside-if w start n trace true true item e = record { below = refl; above = refl }
+outside-if w start n trace true false item e =
+    let h : start + n ≤ length (w .bytes) = inside (length (w .bytes)) start n (w .state .handler .n) e refl in
+    let window : List ℕ = windowOf start n (w .bytes) in
+    splice-outside start n (runOf (w .state) window trace .bytes) (w .bytes) h
+    (run-length (w .state) window trace ∙ window-length start n (w .bytes) h)
+
+pub outside-the-window : OutsideKept
+unfolding byState
+outside-the-window h start n items = (
+  by-image h (callHandler start n) (λ e. rw e) (λ r. SameOutside start n (h .buffer) (r .left .buffer))
+      (λ nobody. record { below = refl; above = refl })
+      (λ s image. let w : Served = served s (h .buffer) in outside-if w start n (4 ∷ []) (fits w start n) false 0 refl),
+  by-image h (runTrace start n items) (λ e. rw e) (λ r. SameOutside start n (h .buffer) (r .left .buffer))
+      (λ nobody. record { below = refl; above = refl })
+      (λ s image.
+      let w : Served = served s (h .buffer) in
+      outside-if w start n items (fits w start n) (ltb (firstBad items) (length items)) (firstBad items) refl),
+)
+
+-- ---- a refusal's number and the item beside it, by the first cause of a list that holds
+data FirstOf (named : ℕ → Type 0) : List Cause → ℕ → ℕ → Type 1 where
+  none : FirstOf named [] 0 0
+  here :
+      {next : Cause} {rest : List Cause} {item : ℕ} → next .holds → OnlyBeside (numberOf (next .why)) (named item) item
+      → FirstOf named (next ∷ rest) (numberOf (next .why)) item
+  later :
+      {next : Cause} {rest : List Cause} {refusal item : ℕ} → (next .holds → ⊥) → FirstOf named rest refusal item
+      → FirstOf named (next ∷ rest) refusal item
+
+module _ {named : ℕ → Type 0} where
+  numbers :
+      {list : List Cause} {refusal item : ℕ} → FirstOf named list refusal item → (number : ℕ) → (refusal ≡ number) ↔ Numbered list number
+  numbers none number = (sym, sym)
+  numbers (here g b) number = (λ e. inl (sym e, g), ⊎-elim (λ x. sym (x .0)) (λ x. absurd (x .0 g)))
+  numbers (later fails more) number =
+      let rest = numbers more number in
+      (λ e. inr (fails, rest .0 e), ⊎-elim (λ x. absurd (fails (x .1))) (λ x. rest .1 (x .1)))
+
+  beside : {list : List Cause} {refusal item : ℕ} → FirstOf named list refusal item → OnlyBeside refusal (named item) item
+  beside none = (λ e. absurd (omega arith), λ e. refl)
+  beside (here g b) = b
+  beside (later fails more) = beside more
+
+  -- By a test that tells whether the next cause holds, where no item is named.
+  tested :
+      {next : Cause} {rest : List Cause} {refusal : ℕ} (t : Bool) → (t ≡ true) ↔ next .holds → OnlyBeside (numberOf (next .why)) (named 0) 0
+      → FirstOf named rest refusal 0 → FirstOf named (next ∷ rest) (cond t (numberOf (next .why)) refusal) 0
+  tested true tells b more = here (tells .0 refl) b
+  tested false tells b more = later (λ g. true≢false (sym (tells .1 g))) more
+
+  told-first :
+      {list : List Cause} {number : ℕ} (v : Verdict) → told v .refusal ≡ number → FirstOf named list number 0
+      → FirstOf named list (told v .refusal) (told v .item)
+  told-first {list} (Done value) e first = subst (λ (k : ℕ). FirstOf named list k 0) (sym e) first
+  told-first {list} (Refused why) e first = subst (λ (k : ℕ). FirstOf named list k 0) (sym e) first
+
+no-item : {named : Type 0} (number : ℕ) → (number ≡ 4 → ⊥) → OnlyBeside number named 0
+no-item number other = (λ e. absurd (other e), λ e. refl)
+
+-- ---- what the tests tell
+not-equal : (a b : ℕ) → (not (eqb a b) ≡ true) ↔ (a ≡ b → ⊥)
+not-equal a b = (λ t. eqb-false a b (not-true (eqb a b) t), λ other. rw (ne-eqb a b other))
+
+below : (a b : ℕ) → (ltb a b ≡ true) ↔ (a < b)
+below a b = (ltb-true a b, lt-ltb a b)
+
+n-outside : (n : ℕ) → (eqb n 0 || ltb 256 n ≡ true) ↔ ((n ≡ 0) ⊎ (256 < n))
+n-outside n = (
+  λ t. by-test (eqb n 0) (λ e. inl (eqb-true n 0 e)) (λ e. inr (ltb-true 256 n (rw e at t))),
+  ⊎-elim (λ e. rw e) (λ h. rw (ne-eqb n 0 (λ e. omega arith), lt-ltb 256 n h)),
+)
+
+module _ (most : ℕ) (items : List ℕ) where
+  first-above : ltb (firstAbove most items) (length items) ≡ true → FirstAbove most items (firstAbove most items)
+  first-above t =
+      let h = ltb-true (firstAbove most items) (length items) t in
+      record { within = h; above = at-first most items h; before = before-first most items }
+
+  some-above : (ltb (firstAbove most items) (length items) ≡ true) ↔ SomeAbove most items
+  some-above = (
+    λ t. let k = first-above t in (firstAbove most items, k .within, k .above),
+    λ k.
+        by-test (ltb (firstAbove most items) (length items)) (λ t. t)
+        (λ t.
+        let h = ltb-false (firstAbove most items) (length items) t in
+        let l : k .0 < length items = k .1 in
+        absurd (omega (arith, before-first most items (k .0) (omega arith), k .2))),
+  )
+
+fits-not :
+    (h : Host) (start n : ℕ) (s : State) → ImageOf s (h .state) → (not (fits (served s (h .buffer)) start n) ≡ true) ↔ FitsNot h start n
+fits-not h start n s image = (
+  λ t.
+      by-test (leb (start + n) (length (h .buffer)))
+      (λ a. inr (λ k. eqb-false n (s .handler .n) (not-true (eqb n (s .handler .n)) (rw a at t)) (same k)))
+      (λ a. inl (leb-false (start + n) (length (h .buffer)) a)),
+  ⊎-elim (λ l. rw (lt-leb (start + n) (length (h .buffer)) l))
+      (λ other.
+      by-test (eqb n (s .handler .n)) (λ e. absurd (other (s, image, sym (eqb-true n (s .handler .n) e)))) (λ e. rw (e, and-false))),
+)
+  where
+    same : SetUpFor n (h .state) → n ≡ s .handler .n
+    same k = sym (k .2) ∙ ap (λ (t : State). t .handler .n) (encode-injective (k .0) s (k .1 .0 ∙ sym (image .0)))
+
+-- SSPM is four bits, and the number that they make.
+ours : (v : ℕ) → (modelled (bit 3 v) (bit 2 v) (bit 1 v) (bit 0 v) ≡ true) ↔ ((v % 16 ≡ 6) ⊎ (v % 16 ≡ 14))
+ours v = (
+  λ t. which (and-first (bit 2 v && bit 1 v) (not (bit 0 v)) t) (and-second (bit 2 v && bit 1 v) (not (bit 0 v)) t),
+  ⊎-elim (λ e. has 0 (omega arith) (omega arith)) (λ e. has 1 (omega arith) (omega arith)),
+)
+  where
+    which : bit 2 v && bit 1 v ≡ true → not (bit 0 v) ≡ true → (v % 16 ≡ 6) ⊎ (v % 16 ≡ 14)
+    which t z =
+        let b2 = eqb-true (v / 4 % 2) 1 (and-first (bit 2 v) (bit 1 v) t) in
+        let b1 = eqb-true (v / 2 % 2) 1 (and-second (bit 2 v) (bit 1 v) t) in
+        let b0 : v % 2 ≡ 1 → ⊥ = rw (div-one v) at (eqb-false (v / 1 % 2) 1 (not-true (bit 0 v) z)) in
+        let sum : v % 16 ≡ v / 8 % 2 * 8 + 6 = omega (arith, div-div-eq-div-mul v 8 2, div-div-eq-div-mul v 4 2, div-div-eq-div-mul v 2 2) in
+        by-test (bit 3 v) (λ b. let b3 = eqb-true (v / 8 % 2) 1 b in inr (omega arith))
+        (λ b. let b3 = eqb-false (v / 8 % 2) 1 b in inl (omega arith))
+
+    has : (b3 : ℕ) → b3 ≤ 1 → v % 16 ≡ b3 * 8 + 6 → modelled (bit 3 v) (bit 2 v) (bit 1 v) (bit 0 v) ≡ true
+    has b3 h e =
+        let e8 : v / 8 ≡ v / 16 * 2 + b3 = omega arith in
+        let e4 : v / 4 ≡ v / 16 * 4 + b3 * 2 + 1 = omega arith in
+        let e2 : v / 2 ≡ v / 16 * 8 + b3 * 4 + 3 = omega arith in
+        let b2 : v / 4 % 2 ≡ 1 = omega (arith, div-div-eq-div-mul v 4 2) in
+        let b1 : v / 2 % 2 ≡ 1 = omega (arith, div-div-eq-div-mul v 2 2) in
+        let b0 : v % 2 ≡ 1 → ⊥ = λ o. omega arith in
+        rw (eq-eqb (v / 4 % 2) 1 b2, eq-eqb (v / 2 % 2) 1 b1, div-one v, ne-eqb (v % 2) 1 b0)
+
+-- The tests of a write.
+abbrev reserves : ℕ → ℕ → Bool
+reserves number v = cond (eqb number 3) (not (eqb (v / 2 % 16) 0)) (eqb number 4 && bit 4 v)
+
+abbrev noMode : ℕ → Bool
+noMode v = bit 5 v && not (modelled (bit 3 v) (bit 2 v) (bit 1 v) (bit 0 v))
+
+reserved : (number v : ℕ) → (reserves number v ≡ true) ↔ SetsReserved number v
+reserved number v = (
+  λ t.
+      by-test (eqb number 3) (λ e. inl (eqb-true number 3 e, not-equal (v / 2 % 16) 0 .0 (rw e at t)))
+      (λ e.
+      let both = rw e at t in
+      inr (eqb-true number 4 (and-first (eqb number 4) (bit 4 v) both), and-second (eqb number 4) (bit 4 v) both)),
+  ⊎-elim (λ k. rw (k .0) (not-equal (v / 2 % 16) 0 .1 (k .1))) (λ k. rw (k .0) (k .1)),
+)
+
+no-mode : (number v : ℕ) → (eqb number 2 && noMode v ≡ true) ↔ SetsNoMode number v
+no-mode number v =
+    let mode : Bool = modelled (bit 3 v) (bit 2 v) (bit 1 v) (bit 0 v) in (
+      λ t.
+          let both = and-second (eqb number 2) (noMode v) t in
+          let other : mode ≡ true → ⊥ = λ m. true≢false (sym m ∙ not-true mode (and-second (bit 5 v) (not mode) both)) in (
+            eqb-true number 2 (and-first (eqb number 2) (noMode v) t),
+            and-first (bit 5 v) (not mode) both,
+            λ six. other (ours v .1 (inl six)),
+            λ fourteen. other (ours v .1 (inr fourteen)),
+          ),
+      λ k. by-test mode (λ t. absurd (⊎-elim (k .2) (k .3) (ours v .0 t))) (λ t. rw (k .0, k .1, t)),
+    )
+
+-- ---- the number of a verdict
+-- What holds of each register with its number, and of every number above 7.
+by-register :
+    (P : ℕ → Register → Type 0) → P 0 Buf → P 1 Stat → P 2 Con1 → P 3 Con2 → P 4 Con3 → P 5 Add → P 6 Msk → P 7 Flag
+    → ((number : ℕ) → 7 < number → P number Nowhere) → (number : ℕ) → P number (registerOf number)
+by-register P p0 p1 p2 p3 p4 p5 p6 p7 above zero = p0
+by-register P p0 p1 p2 p3 p4 p5 p6 p7 above (suc zero) = p1
+by-register P p0 p1 p2 p3 p4 p5 p6 p7 above (suc (suc zero)) = p2
+by-register P p0 p1 p2 p3 p4 p5 p6 p7 above (suc (suc (suc zero))) = p3
+by-register P p0 p1 p2 p3 p4 p5 p6 p7 above (suc (suc (suc (suc zero)))) = p4
+by-register P p0 p1 p2 p3 p4 p5 p6 p7 above (suc (suc (suc (suc (suc zero))))) = p5
+by-register P p0 p1 p2 p3 p4 p5 p6 p7 above (suc (suc (suc (suc (suc (suc zero)))))) = p6
+by-register P p0 p1 p2 p3 p4 p5 p6 p7 above (suc (suc (suc (suc (suc (suc (suc zero))))))) = p7
+by-register P p0 p1 p2 p3 p4 p5 p6 p7 above (suc (suc (suc (suc (suc (suc (suc (suc k)))))))) =
+    let number : ℕ = suc (suc (suc (suc (suc (suc (suc (suc k))))))) in
+    let other : (i : ℕ) → i ≤ 7 → eqb number i ≡ false = λ i h. ne-eqb number i (λ e. omega arith) in
+    rw (other 0 (omega arith), other 1 (omega arith), other 2 (omega arith), other 3 (omega arith), other 4 (omega arith), other 5 (omega arith), other 6 (omega arith), other 7 (omega arith)) (above number (omega arith))
+
+read-number : (number held : ℕ) → told (readVerdict (registerOf number) held) .refusal ≡ cond (ltb 7 number) 1 0
+read-number number held =
+    by-register (λ n r. told (readVerdict r held) .refusal ≡ cond (ltb 7 n) 1 0) refl refl refl refl refl refl refl refl
+    (λ n h. rw (lt-ltb 7 n h)) number
+
+told-if : (t : Bool) (why : Refusal) → told (cond t (Refused why) (Done 0)) .refusal ≡ cond t (numberOf why) 0
+told-if true why = refl
+told-if false why = refl
+
+write-number :
+    (number v : ℕ)
+    → told (verdictOf (registerOf number) v m) .refusal
+    ≡ cond (ltb 7 number) 1 (cond (reserves number v) 2 (cond (eqb number 2 && noMode v) 3 0))
+write-number number v =
+    by-register
+    (λ n r. told (verdictOf r v m) .refusal ≡ cond (ltb 7 n) 1 (cond (reserves n v) 2 (cond (eqb n 2 && noMode v) 3 0)))
+    refl refl (told-if (noMode v) NoMode) (told-if (not (eqb (v / 2 % 16) 0)) ReservedBit) (told-if (bit 4 v) ReservedBit)
+    refl refl refl (λ n h. rw (lt-ltb 7 n h)) number
+
+sample-number :
+    (s : State) (bytes : List ℕ) (level : ℕ) → told (stepOf s bytes (itemIf (ltb level 4) false level) .verdict) .refusal ≡ cond (ltb 3 level) 4 0
+sample-number s bytes level =
+    by-test (ltb 3 level) (λ t. let h = ltb-true 3 level t in rw (t, le-ltb level 4 h))
+    (λ t. let h = ltb-false 3 level t in rw (t, lt-ltb level 4 (omega arith)))
+
+-- ---- what each call looks at
+above-looks :
+    (most : ℕ) (items : List ℕ) {rest : List Cause} {refusal : ℕ} (bad : Bool) → bad ≡ ltb (firstAbove most items) (length items)
+    → (bad ≡ false → FirstOf (FirstAbove most items) rest refusal 0)
+    → FirstOf (FirstAbove most items) ((NoItem when SomeAbove most items) ∷ rest) (cond bad 4 refusal) (cond bad (firstAbove most items) 0)
+above-looks most items true e more = here (some-above most items .0 (sym e)) (λ q. first-above most items (sym e), λ q. absurd (q refl))
+above-looks most items false e more = later (λ g. true≢false (sym (some-above most items .1 g) ∙ sym e)) (more refl)
+
+module _ (h : Host) where
+  abbrev Looks : DoorCall → Type 1
+  Looks c = FirstOf (Beside c) (causes h c) (atDoor h c .answer .refusal) (atDoor h c .answer .item)
+
+  setup-looks :
+      (add n : ℕ) (s : State) (long bad : Bool) → (not long ≡ true) ↔ (length (h .state) ≡ imageLength → ⊥)
+      → (bad ≡ true) ↔ ((n ≡ 0) ⊎ (256 < n)) → let answer : Answer = setupIf long (cond bad (NotMade NoWindow) (Ready s)) (h .state) .answer in
+      FirstOf (Beside (setUp add n)) (causes h (setUp add n)) (answer .refusal) (answer .item)
+  setup-looks add n s false bad six five = here (six .0 refl) (λ e. refl, λ e. refl)
+  setup-looks add n s true true six five = later (λ g. never (six .1 g)) (here (five .0 refl) (λ e. refl, λ e. refl))
+  setup-looks add n s true false six five = later (λ g. never (six .1 g)) (later (λ g. never (five .1 g)) none)
+
+  window-looks :
+      {named : ℕ → Type 0} {four : List Cause} (w : Served) (start n item : ℕ) (items : List Item) (f bad : Bool)
+      → (not f ≡ true) ↔ FitsNot h start n → FirstOf named four (cond bad 4 0) (cond bad item 0)
+      → let answer : Answer = inWindow f bad item w start n items .answer in
+      FirstOf named ((NoWindow when FitsNot h start n) ∷ four) (answer .refusal) (answer .item)
+  window-looks w start n item items false bad five more = here (five .0 refl) (no-item 5 (λ e. omega arith))
+  window-looks w start n item items true true five more = later (λ g. never (five .1 g)) more
+  window-looks w start n item items true false five more = later (λ g. never (five .1 g)) more
+
+  -- 6 where there is no state, else what is looked at on the state.
+  on-image :
+      {rest : List Cause} (c : DoorCall) → (decodeOf (h .state) ≡ NoImage → atDoor h c ≡ reply (refused NoState 0) h)
+      → ((s : State) → ImageOf s (h .state)
+      → let answer : Answer = byDefinition (served s (h .buffer)) c .answer in FirstOf (Beside c) rest (answer .refusal) (answer .item))
+      → FirstOf (Beside c) ((NoState when ImageOfNone (h .state)) ∷ rest) (atDoor h c .answer .refusal) (atDoor h c .answer .item)
+  on-image {rest} c six looks =
+      by-image h c six (λ r. FirstOf (Beside c) ((NoState when ImageOfNone (h .state)) ∷ rest) (r .answer .refusal) (r .answer .item))
+      (λ nobody. here nobody (no-item 6 (λ e. omega arith)))
+      (λ s image. later (λ nobody. nobody s image) (looks s image))
+
+  looked : (c : DoorCall) → Looks c
+  unfolding byState
+  looked (setUp add n) =
+      setup-looks add n (stateOf (setup add) (handlerOf n 0 false)) (eqb (length (h .state)) imageLength) (eqb n 0 || ltb 256 n)
+      (not-equal (length (h .state)) imageLength) (n-outside n)
+  looked (readRegister number) =
+      on-image (readRegister number) (λ e. rw e)
+      (λ s image.
+      told-first (readOf (s .mssp) number .verdict) (read-number number (valueOf (s .mssp .config) (s .mssp .live) (registerOf number)))
+      (tested (ltb 7 number) (below 7 number) (λ e. refl, λ e. refl) none))
+  looked (writeRegister number value) =
+      on-image (writeRegister number value) (λ e. rw e)
+      (λ s image.
+      told-first (writeOf (s .mssp) number value .verdict) (write-number number value)
+      (tested (ltb 7 number) (below 7 number) (λ e. refl, λ e. refl)
+      (tested (reserves number value) (reserved number value) (λ e. refl, λ e. refl)
+      (tested (eqb number 2 && noMode value) (no-mode number value) (λ e. refl, λ e. refl) none))))
+  looked (feedSample level) =
+      on-image (feedSample level) (λ e. rw e)
+      (λ s image.
+      told-first (stepOf s (h .buffer) (itemIf (ltb level 4) false level) .verdict) (sample-number s (h .buffer) level)
+      (tested (ltb 3 level) (below 3 level) (λ e. refl, λ e. refl) none))
+  looked (callHandler start n) =
+      on-image (callHandler start n) (λ e. rw e)
+      (λ s image.
+      let w : Served = served s (h .buffer) in
+      window-looks w start n 0 (Call ∷ []) (fits w start n) false (fits-not h start n s image) none)
+  looked (runTrace start n items) =
+      on-image (runTrace start n items) (λ e. rw e)
+      (λ s image.
+      let w : Served = served s (h .buffer) in
+      let bad : Bool = ltb (firstBad items) (length items) in
+      window-looks w start n (firstBad items) (map itemAt items) (fits w start n) bad (fits-not h start n s image) (above-looks 4 items bad refl (λ no. none)))
+
+look-looks : (bytes : List ℕ) → FirstOf (λ item. ⊥) (lookCauses bytes) (doorLook bytes .refusal) 0
+unfolding byState
+look-looks bytes =
+    ⊎-elim (λ k. rw (k .0) (here (k .1) (no-item 6 (λ e. omega arith)))) (λ k. rw (k .1) (later (λ (nobody : ImageOfNone bytes). nobody (k .0) (k .2)) none))
+    (image-or-none bytes)
+
+part-looks :
+    {named : ℕ → Type 0} {list : List Cause} (place : Place) (item end : ℕ) → FirstOf named list 0 0
+    → FirstOf named list (refusalOf (partFrom place item end)) (itemOf (partFrom place item end))
+part-looks Outside item end first = first
+part-looks (Inside start) item end first = first
+
+find-looks :
+    (levels : List ℕ) (item : ℕ) (bad in-it : Bool) → bad ≡ ltb (firstBadLevel levels) (length levels) → in-it ≡ ltb item (length levels)
+    → let found : Found = spanIf bad in-it levels item in
+    FirstOf (FirstAbove 3 levels) (findCauses levels item) (refusalOf found) (itemOf found)
+find-looks levels item true in-it e f = above-looks 3 levels {refusal = 0} true e (λ no. absurd (true≢false no))
+find-looks levels item false false e f =
+    above-looks 3 levels false e (λ no. here (ltb-false item (length levels) (sym f)) (no-item 7 (λ q. omega arith)))
+find-looks levels item false true e f =
+    part-looks (placeAt levels item) item (endAt levels item)
+    (above-looks 3 levels false e (λ no. later (λ (g : length levels ≤ item). omega (arith, ltb-true item (length levels) (sym f))) none))
+
+found-looks : (levels : List ℕ) (item : ℕ) → let part : Parted = doorFind levels item in FirstOf (FirstAbove 3 levels) (findCauses levels item) (part .refusal) (part .item)
+unfolding spanOf
+found-looks levels item = find-looks levels item (ltb (firstBadLevel levels) (length levels)) (ltb item (length levels)) refl refl
+
+pub exact-causes : ExactCauses
+exact-causes = (λ h c. numbers (looked h c), λ bytes. numbers (look-looks bytes), λ levels item. numbers (found-looks levels item))
+
+pub item-beside : ItemBeside
+item-beside = (λ h c. beside (looked h c), λ levels item. beside (found-looks levels item))
+
+pub demand-one : DemandOne
+demand-one = (one-outcome, refused-keeps, outside-the-window, exact-causes, item-beside)

@@ -1,0 +1,280 @@
+-- Set up, and fed through the door: the registers after setup; a run is the calls one after the other, however its items are fed;
+-- demand 3.
+use Prim.Native.Nat.{ℕ, _+_, _≤_}
+use mathlib.Core.Path.{_≡_, refl, sym, ap, _∙_, subst}
+use mathlib.Core.Bool.{Bool, true, false, cond, _||_}
+use mathlib.Core.List.{List, [], _∷_, map, _++_}
+use native.Mathlib.Omega.{arith}
+use lib.Dec.{T, eqb, ltb}
+use lib.ListN.{length, take, drop, take-append-drop, length-append, length-drop, List·getD-append}
+use lib.Seq.{length-take-le, take-at, drop-at, getD-append-add}
+use borrow.Author.Tests.{ne-eqb, ltb-false, lt-ltb, le-ltb, eq-eqb, le-leb}
+use Rattle.truth.specs.Tests.{by-test}
+use Rattle.items.specs.Theorems.{before-first, first-only}
+use Rattle.refusals.specs.declared.Refusal.the-variants.{NoWindow}
+use Rattle.mssp.specs.Module.{setup}
+use Rattle.firmware.specs.declared.State.{State}
+use Rattle.firmware.specs.declared.Made.the-variants.{Ready, Refused}
+use Rattle.firmware.specs.Handler.{Served, served, stateOf, handlerOf, acknowledged, serve, calledIf}
+use Rattle.firmware.specs.Window.{windowOf, splice, inBuffer}
+use Rattle.firmware.specs.Laws.{inside}
+use Rattle.steps.specs.declared.Item.{Item}
+use Rattle.steps.specs.Step.{afterAll}
+use Rattle.trace.specs.Run.{firstBad, stepIf, stepOf, itemAt, runFrom, runOf}
+use Rattle.trace.specs.Theorems.{run-joined, run-length, window-length, SameOutside, splice-outside}
+use Rattle.agreement.specs.Joint.{Joint, step, run, afresh, Agrees}
+use Rattle.agreement.specs.Demand.{demand-three}
+use Rattle.image.specs.Image.{imageLength, validState, encodeOf}
+use Rattle.view.specs.View.{viewOf, noView}
+use Rattle.door.specs.declared.Answer.{Answer}
+use Rattle.door.specs.Door.{setupIf, doorSetup}
+use Rattle.door.specs.Outcome.{byState, done}
+use Rattle.doorkept.specs.Image.{setup-leaves}
+use Rattle.demands.specs.Calls.{DoorCall, setUp, readRegister, runTrace, Host, host, Reply, reply, answers, leftAfter, atDoor, fits, inWindow, byDefinition, AllItems, Asks, a-run, a-sample, a-call, Feeds, nothing, one-more, jointItem}
+use Rattle.demands.specs.Demands.{SetupRegisters, RunIsCalls, DemandThree}
+use Rattle.demands.specs.DemandTwo.{image-is, on-state, follows, imageHost, by-image, Follows}
+
+-- ---- setup
+-- The state that an accepted setup makes.
+abbrev pub madeFor : ℕ → ℕ → State
+madeFor add n = stateOf (setup add) (handlerOf n 0 false)
+
+module _ (bytes : List ℕ) (add n : ℕ) where
+  made-if :
+      (long bad : Bool) → setupIf long (cond bad (Refused NoWindow) (Ready (madeFor add n))) bytes .answer .refusal ≡ 0
+      → setupIf long (cond bad (Refused NoWindow) (Ready (madeFor add n))) bytes .state ≡ encodeOf (madeFor add n)
+  made-if false bad e = absurd (omega arith)
+  made-if true true e = absurd (omega arith)
+  made-if true false e = refl
+
+  module _ (e : doorSetup bytes add n .answer .refusal ≡ 0) where
+    pub setup-made : doorSetup bytes add n .state ≡ encodeOf (madeFor add n)
+    setup-made = made-if (eqb (length bytes) imageLength) (eqb n 0 || ltb 256 n) e
+
+    pub setup-valid : T (validState (madeFor add n))
+    setup-valid = image-is (madeFor add n) (rw setup-made at (setup-leaves bytes add n e))
+
+pub setup-registers : SetupRegisters
+setup-registers h add n e =
+    let w : Served = served (madeFor add n) (h .buffer) in
+    let valid : T (validState (w .state)) = setup-valid (h .state) add n e in
+    rw (setup-made (h .state) add n e) (
+      on-state noView viewOf (w .state) valid,
+      follows w (map readRegister (0 ∷ 1 ∷ 2 ∷ 3 ∷ 4 ∷ 5 ∷ 6 ∷ 7 ∷ [])) valid .answered,
+    )
+
+-- ---- a run is the calls one after the other
+-- Other bytes in a window
+module _ (start n : ℕ) (bytes buffer : List ℕ) (h : start + n ≤ length buffer) (e : length bytes ≡ n) where
+  front : length (take start buffer) ≡ start
+  front = length-take-le start buffer (omega arith)
+
+  behind : drop start (splice start n bytes buffer) ≡ bytes ++ drop n (drop start buffer)
+  behind = drop-at (take start buffer) (bytes ++ drop n (drop start buffer)) start front
+
+  splice-window : windowOf start n (splice start n bytes buffer) ≡ bytes
+  splice-window = rw behind (take-at bytes (drop n (drop start buffer)) n e)
+
+  splice-again : (other : List ℕ) → splice start n other (splice start n bytes buffer) ≡ splice start n other buffer
+  splice-again other =
+      rw (take-at (take start buffer) (bytes ++ drop n (drop start buffer)) start front, behind, drop-at bytes (drop n (drop start buffer)) n e)
+
+  splice-length : length (splice start n bytes buffer) ≡ length buffer
+  splice-length = simp (length-append, front, e, length-drop) (omega arith)
+
+splice-own : (start n : ℕ) (buffer : List ℕ) → splice start n (windowOf start n buffer) buffer ≡ buffer
+splice-own start n buffer = rw (take-append-drop n (drop start buffer), take-append-drop start buffer)
+
+-- A run keeps the handler's n
+serve-n : (sends da : Bool) (s : State) (bytes : List ℕ) → serve sends da s bytes .state .handler .n ≡ s .handler .n
+serve-n true da s bytes = refl
+serve-n false true s bytes = refl
+serve-n false false s bytes = refl
+
+called-n : (flag ckp : Bool) (s : State) (bytes : List ℕ) → calledIf flag ckp s bytes .state .handler .n ≡ s .handler .n
+called-n false ckp s bytes = refl
+called-n true true s bytes = refl
+called-n true false s bytes = serve-n (s .mssp .live .rw) (s .mssp .live .da) (acknowledged s) bytes
+
+step-n : (level call : Bool) (s : State) (bytes : List ℕ) (item : ℕ) → stepIf level call s bytes item .state .handler .n ≡ s .handler .n
+step-n true call s bytes item = refl
+step-n false true s bytes item = called-n (s .mssp .live .sspif) (s .mssp .live .ckp) s bytes
+step-n false false s bytes item = refl
+
+run-n : (s : State) (bytes items : List ℕ) → runOf s bytes items .state .handler .n ≡ s .handler .n
+unfolding afterAll
+run-n s bytes [] = refl
+run-n s bytes (x ∷ xs) = run-n (stepOf s bytes x .state) (stepOf s bytes x .bytes) xs ∙ step-n (ltb x 4) (eqb x 4) s bytes x
+
+-- Every item is one.
+none-bad : (items : List ℕ) → AllItems items → ltb (firstBad items) (length items) ≡ false
+none-bad items good =
+    let e = first-only 4 items (length items) (omega arith) good (λ h. absurd (omega arith)) in
+    le-ltb (firstBad items) (length items) (omega arith)
+
+all-good : (items : List ℕ) → ltb (firstBad items) (length items) ≡ false → AllItems items
+all-good items e k h = let l = ltb-false (firstBad items) (length items) e in before-first 4 items k (omega arith)
+
+module _ (xs ys : List ℕ) (good : AllItems (xs ++ ys)) where
+  good-first : AllItems xs
+  good-first k h = rw (← List·getD-append xs ys 0 k h) (good k (simp length-append (omega arith)))
+
+  good-rest : AllItems ys
+  good-rest k h = rw (← getD-append-add xs ys k 0) (good (length xs + k) (simp length-append (omega arith)))
+
+-- Items in a window of the buffer, and the rest of them in the same window
+module _ (start n : ℕ) where
+  abbrev pub ranOn : Served → List ℕ → Served
+  ranOn w items = inBuffer (λ window. runFrom (served (w .state) window) items) (w .bytes) start n
+
+  ran-none : (w : Served) → w ≡ ranOn w []
+  unfolding afterAll
+  ran-none w = ap (λ (b : List ℕ). served (w .state) b) (sym (splice-own start n (w .bytes)))
+
+  module _ (w : Served) (f : fits w start n ≡ true) where
+    within : start + n ≤ length (w .bytes)
+    within = inside (length (w .bytes)) start n (w .state .handler .n) (sym f) refl
+
+    module _ (xs : List ℕ) where
+      abbrev left : Served
+      left = runOf (w .state) (windowOf start n (w .bytes)) xs
+
+      left-length : length (left .bytes) ≡ n
+      left-length = run-length (w .state) (windowOf start n (w .bytes)) xs ∙ window-length start n (w .bytes) within
+
+      ran-fits : fits (ranOn w xs) start n ≡ true
+      ran-fits = rw (splice-length start n (left .bytes) (w .bytes) within left-length, run-n (w .state) (windowOf start n (w .bytes)) xs) f
+
+      ran-on : (ys : List ℕ) → ranOn (ranOn w xs) ys ≡ ranOn w (xs ++ ys)
+      ran-on ys =
+          rw (splice-window start n (left .bytes) (w .bytes) within left-length, ← run-joined (w .state) (windowOf start n (w .bytes)) xs ys, splice-again start n (left .bytes) (w .bytes) within left-length (runOf (w .state) (windowOf start n (w .bytes)) (xs ++ ys) .bytes))
+
+  -- What calls that feed items do by the definitions: each is done, and they leave what the run leaves
+  pub record Fed (w : Served) (calls : List DoorCall) (items : List ℕ) : Type 0 where
+    pub answered : answers byDefinition w calls ≡ map (λ c. done 0) calls
+    pub left : leftAfter byDefinition w calls ≡ ranOn w items
+
+  asked :
+      {c : DoorCall} {items : List ℕ} → Asks start n c items → (w : Served) → fits w start n ≡ true → AllItems items
+      → byDefinition w c ≡ reply (done 0) (ranOn w items)
+  unfolding afterAll
+  asked (a-run {items = items}) w f good = rw (f, none-bad items good)
+  asked (a-sample {level = level} h) w f good = rw (lt-ltb level 4 (omega arith), splice-own start n (w .bytes))
+  asked a-call w f good = rw f
+
+  fed :
+      {calls : List DoorCall} {items : List ℕ} → Feeds start n calls items → (w : Served) → fits w start n ≡ true → AllItems items
+      → Fed w calls items
+  fed nothing w f good = record { answered = refl; left = ran-none w }
+  fed (one-more {c = c} {calls = calls} {items = xs} {rest = ys} asks more) w f good =
+      let e = asked asks w f (good-first xs ys good) in
+      let rest = fed more (ranOn w xs) (ran-fits w f xs) (good-rest xs ys good) in
+      record {
+        answered =
+            ap (λ (r : Reply Served). r .answer ∷ answers byDefinition (r .left) calls) e
+            ∙ ap (λ (answers : List Answer). done 0 ∷ answers) (rest .answered);
+        left = ap (λ (r : Reply Served). leftAfter byDefinition (r .left) calls) e ∙ rest .left ∙ ran-on w f xs ys;
+      }
+
+  -- At the door.
+  pub was-run :
+      (w : Served) (items : List Item) (f bad : Bool) (item : ℕ) → inWindow f bad item w start n items .answer .refusal ≡ 0
+      → (f ≡ true) × (bad ≡ false)
+  was-run w items false bad item e = absurd (omega arith)
+  was-run w items true true item e = absurd (omega arith)
+  was-run w items true false item e = (refl, refl)
+
+pub run-is-calls : RunIsCalls
+unfolding byState
+run-is-calls start n h calls items feeds =
+    by-image h (runTrace start n items) (λ e. rw e)
+    (λ r. r .answer .refusal ≡ 0 → (answers atDoor h calls ≡ map (λ c. done 0) calls) × (leftAfter atDoor h calls ≡ r .left))
+    (λ nobody e. absurd (omega arith))
+    (λ s image e.
+    let w : Served = served s (h .buffer) in
+    let k = was-run start n w (map itemAt items) (fits w start n) (ltb (firstBad items) (length items)) (firstBad items) e in
+    let parts = fed start n feeds w (k .0) (all-good items (k .1)) in
+    let all = follows w calls (image .1) in
+    let whole = asked start n a-run w (k .0) (all-good items (k .1)) in
+    subst
+    (λ (b : List ℕ). (answers atDoor (host b (h .buffer)) calls ≡ map (λ c. done 0) calls) × (leftAfter atDoor (host b (h .buffer)) calls ≡ imageHost (byDefinition w (runTrace start n items) .left)))
+    (image .0) (all .answered ∙ parts .answered, all .left ∙ ap imageHost (parts .left ∙ sym (ap (λ (r : Reply Served). r .left) whole))))
+
+-- ---- demand 3
+-- The joint run's state and bytes are those of the run
+module _ (n add : ℕ) where
+  joint-step :
+      (j : Joint) (item : ℕ) → item ≤ 4
+      → let next : Joint = step n add j (jointItem item) in
+      stepOf (j .state) (j .bytes) item ≡ served (next .state) (next .bytes)
+  joint-step j item h =
+      by-test (ltb item 4) (λ t. rw t)
+      (λ t. let l = ltb-false item 4 t in rw (t, eq-eqb item 4 (omega arith)))
+
+  joint-run :
+      (j : Joint) (items : List ℕ) → AllItems items
+      → let all : Joint = run n add j (map jointItem items) in
+      runOf (j .state) (j .bytes) items ≡ served (all .state) (all .bytes)
+  unfolding afterAll
+  joint-run j [] good = refl
+  joint-run j (x ∷ xs) good =
+      ap (λ (w : Served). runFrom w xs) (joint-step j x (good 0 (omega arith)))
+      ∙ joint-run (step n add j (jointItem x)) xs (good-rest (x ∷ []) xs good)
+
+-- A setup with a length of 1 to 256 is accepted, and makes the state that the joint run begins with.
+setup-begins :
+    (add n : ℕ) (h : Host) → length (h .state) ≡ imageLength → 1 ≤ n → n ≤ 256
+    → atDoor h (setUp add n) ≡ reply (done 0) (imageHost (served (madeFor add n) (h .buffer)))
+setup-begins add n h long low high =
+    rw (eq-eqb (length (h .state)) imageLength long, ne-eqb n 0 (λ e. omega arith), le-ltb 256 n high)
+
+pub demand-three-at-door : DemandThree
+demand-three-at-door add start n h calls items long low high inside feeds good = (
+  ap (λ (r : Reply Host). r .answer ∷ answers atDoor (r .left) calls) begins
+      ∙ ap (λ (more : List Answer). done 0 ∷ more) (all-follow .answered ∙ all-fed .answered),
+  (sym (ap (λ (x : Host). x .state) left), rw defined at (all-follow .valid)),
+  ap (λ (x : Host). x .buffer) left,
+  subst (λ (k : ℕ). Agrees add (run k add (afresh add window) (map jointItem items))) sized (demand-three add window (map jointItem items)),
+  rw left outside,
+)
+  where
+    window : List ℕ
+    window = windowOf start n (h .buffer)
+
+    sized : length window ≡ n
+    sized = window-length start n (h .buffer) inside
+
+    begun : Served
+    begun = served (madeFor add n) (h .buffer)
+
+    begins : atDoor h (setUp add n) ≡ reply (done 0) (imageHost begun)
+    begins = setup-begins add n h long low high
+
+    fitting : fits begun start n ≡ true
+    fitting = rw (le-leb (start + n) (length (h .buffer)) inside, eq-eqb n n refl)
+
+    all-fed : Fed start n begun calls items
+    all-fed = fed start n feeds begun fitting good
+
+    all-follow : Follows begun calls
+    all-follow = follows begun calls (setup-valid (h .state) add n (ap (λ (r : Reply Host). r .answer .refusal) begins))
+
+    joint : Joint
+    joint = run n add (afresh add window) (map jointItem items)
+
+    ran : runOf (madeFor add n) window items ≡ served (joint .state) (joint .bytes)
+    ran = ap (λ (k : ℕ). runOf (madeFor add k) window items) (sym sized) ∙ joint-run n add (afresh add window) items good
+
+    ended : Served
+    ended = served (joint .state) (splice start n (joint .bytes) (h .buffer))
+
+    defined : leftAfter byDefinition begun calls ≡ ended
+    defined = all-fed .left ∙ ap (λ (w : Served). served (w .state) (splice start n (w .bytes) (h .buffer))) ran
+
+    left : leftAfter atDoor h (setUp add n ∷ calls) ≡ imageHost ended
+    left = ap (λ (r : Reply Host). leftAfter atDoor (r .left) calls) begins ∙ all-follow .left ∙ ap imageHost defined
+
+    outside : SameOutside start n (h .buffer) (ended .bytes)
+    outside =
+        splice-outside start n (joint .bytes) (h .buffer) inside
+        (ap (λ (w : Served). length (w .bytes)) (sym ran) ∙ run-length (madeFor add n) window items ∙ sized)

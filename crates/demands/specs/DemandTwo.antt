@@ -1,0 +1,213 @@
+-- Demand 2: after every list of calls the bytes are the image of the state that the definitions give.
+use Prim.Native.Nat.{ℕ}
+use mathlib.Core.Logic.{_⊎_, inl, inr, ⊎-elim}
+use mathlib.Core.Path.{_≡_, refl, sym, ap, subst, _∙_}
+use mathlib.Core.Bool.{Bool, true, false}
+use mathlib.Core.List.{List, [], _∷_, map}
+use native.Mathlib.Omega.{arith}
+use lib.Dec.{T, ltb}
+use lib.ListN.{length}
+use borrow.Author.Tests.{eq-eqb, ltb-true, ltb-false, lt-ltb, le-ltb}
+use Rattle.truth.specs.Tests.{never, by-test}
+use Rattle.refusals.specs.declared.Refusal.the-variants.{NoState}
+use Rattle.refusals.specs.declared.Verdict.{Verdict}
+use Rattle.refusals.specs.declared.Verdict.the-variants.{Done, Refused}
+use Rattle.refusals.specs.Numbers.{accepted}
+use Rattle.mssp.specs.declared.Module.{Module}
+use Rattle.registers.specs.declared.Access.{Access}
+use Rattle.registers.specs.declared.Register.{Register}
+use Rattle.registers.specs.declared.Register.the-variants.{Buf, Stat, Con1, Con2, Con3, Add, Msk, Flag, Nowhere}
+use Rattle.registers.specs.Values.{registerOf, valueOf, readVerdict, afterRead, readOf}
+use Rattle.writes.specs.Writes.{writeOf}
+use Rattle.readback.specs.Readback.{refused-leaves}
+use Rattle.firmware.specs.declared.State.{State}
+use Rattle.firmware.specs.declared.Made.{Made}
+use Rattle.firmware.specs.declared.Made.the-variants.{Ready, Refused as NotMade}
+use Rattle.firmware.specs.Handler.{Served, served, stateOf, setupOf}
+use Rattle.firmware.specs.Window.{windowFits, callOf, choice as callChoice}
+use Rattle.steps.specs.declared.Item.the-variants.{Call}
+use Rattle.steps.specs.Step.{afterAll}
+use Rattle.trace.specs.Run.{firstBad, sampledBy, itemAt}
+use Rattle.trace.specs.Window.{runInOf, choice as runChoice}
+use Rattle.image.specs.declared.Decoded.{Decoded}
+use Rattle.image.specs.declared.Decoded.the-variants.{Valid, NoImage}
+use Rattle.image.specs.Image.{imageLength, validState, encodeOf, decodeOf}
+use Rattle.image.specs.Laws.{encode-length}
+use Rattle.image.specs.Theorems.{decode-encode, decode-exactly, encode-injective}
+use Rattle.view.specs.View.{viewOf, noView}
+use Rattle.door.specs.declared.Answer.{Answer}
+use Rattle.door.specs.Outcome.{Outcome, Lent, lent, refused, settled, noState, byState}
+use Rattle.door.specs.Door.{setupIf, doorSetup, accessed, levelVerdict, called, ran}
+use Rattle.door.specs.Theorems.{setup-keeps}
+use Rattle.doorkept.specs.Image.{Image, setup-leaves, stays, read-stays, write-stays, sample-stays, call-stays, run-stays}
+use Rattle.demands.specs.Calls.{DoorCall, setUp, readRegister, writeRegister, feedSample, callHandler, runTrace, Host, host, Reply, reply, answers, leftAfter, atDoor, told, inWindow, madeOf, byDefinition, ImageOf, ImageOfNone}
+use Rattle.demands.specs.Demands.{DemandTwo}
+
+-- What a host holds of a state and its buffer, and what it is answered and left of them.
+abbrev pub imageHost : Served → Host
+imageHost w = host (encodeOf (w .state)) (w .bytes)
+
+abbrev pub imageReply : Reply Served → Reply Host
+imageReply r = reply (r .answer) (imageHost (r .left))
+
+-- An image that is a state's bytes is that state's.
+pub image-is : (s : State) → Image (encodeOf s) → T (validState s)
+image-is s image =
+    let is : ImageOf (image .of) (encodeOf s) = decode-exactly (encodeOf s) (image .of) .0 (image .decodes) in
+    rw (encode-injective (image .of) s (is .0)) at (is .1)
+
+-- A call works on the state whose image it is given.
+pub on-state : {A : Type 0} (none : A) (work : State → A) (s : State) → T (validState s) → byState (decodeOf (encodeOf s)) none work ≡ work s
+unfolding byState
+on-state none work s v = rw (decode-encode s v)
+
+-- ---- one call
+-- A read that is refused leaves the module as it was.
+read-refused : (r : Register) (held : ℕ) (m : Module) → accepted (readVerdict r held) ≡ false → afterRead r m ≡ m
+read-refused Buf held m e = never (sym e)
+read-refused Stat held m e = refl
+read-refused Con1 held m e = refl
+read-refused Con2 held m e = refl
+read-refused Con3 held m e = refl
+read-refused Add held m e = refl
+read-refused Msk held m e = refl
+read-refused Flag held m e = refl
+read-refused Nowhere held m e = refl
+
+abbrev unlent : List ℕ → Outcome → Reply Host
+unlent buffer o = reply (o .answer) (host (o .state) buffer)
+
+abbrev lends : Lent → Reply Host
+lends o = reply (o .outcome .answer) (host (o .outcome .state) (o .buffer))
+
+module _ (w : Served) where
+  abbrev s : State
+  s = w .state
+
+  abbrev bytes : List ℕ
+  bytes = encodeOf (w .state)
+
+  -- Done, the bytes are the image of the next state; refused, that of the same.
+  settles :
+      (v : Verdict) (next : State) → (accepted v ≡ false → next ≡ s)
+      → unlent (w .bytes) (settled v 0 next bytes) ≡ imageReply (reply (told v) (served next (w .bytes)))
+  settles (Done value) next same = refl
+  settles (Refused why) next same = rw (same refl)
+
+  made : (m : Made) → unlent (w .bytes) (setupIf true m bytes) ≡ imageReply (madeOf m w)
+  made (Ready next) = refl
+  made (NotMade why) = refl
+
+  sampled :
+      (level : ℕ) → unlent (w .bytes) (settled (levelVerdict level) 0 (sampledBy s level) bytes) ≡ imageReply (byDefinition w (feedSample level))
+  sampled level =
+      by-test (ltb 3 level) (λ t. let h = ltb-true 3 level t in rw (t, le-ltb level 4 h))
+      (λ t. let h = ltb-false 3 level t in rw (t, lt-ltb level 4 (omega arith)))
+
+  module _ (start n : ℕ) where
+    called-if : (fits : Bool) → lends (called bytes (callChoice s (w .bytes) start n fits)) ≡ imageReply (inWindow fits false 0 w start n (Call ∷ []))
+    unfolding afterAll
+    called-if true = refl
+    called-if false = refl
+
+    ran-if :
+        (items : List ℕ) (fits bad : Bool)
+        → lends (ran bytes (runChoice fits bad s (w .bytes) start n items)) ≡ imageReply (inWindow fits bad (firstBad items) w start n (map itemAt items))
+    ran-if items false bad = refl
+    ran-if items true true = refl
+    ran-if items true false = refl
+
+  module _ (v : T (validState s)) where
+    accesses :
+        (work : Module → Access) → (accepted (work (s .mssp) .verdict) ≡ false → work (s .mssp) .mssp ≡ s .mssp)
+        → unlent (w .bytes) (byState (decodeOf bytes) (noState bytes) (accessed work bytes))
+        ≡ imageReply (reply (told (work (s .mssp) .verdict)) (served (stateOf (work (s .mssp) .mssp) (s .handler)) (w .bytes)))
+    accesses work same =
+        ap (unlent (w .bytes)) (on-state (noState bytes) (accessed work bytes) s v)
+        ∙ settles (work (s .mssp) .verdict) (stateOf (work (s .mssp) .mssp) (s .handler))
+        (λ e. ap (λ (m : Module). stateOf m (s .handler)) (same e))
+
+    one-call : (c : DoorCall) → atDoor (imageHost w) c ≡ imageReply (byDefinition w c)
+    one-call (setUp add n) = rw (eq-eqb (length bytes) imageLength (encode-length s)) (made (setupOf add n))
+    one-call (readRegister number) =
+        let r = registerOf number in
+        accesses (λ m. readOf m number) (read-refused r (valueOf (s .mssp .config) (s .mssp .live) r) (s .mssp))
+    one-call (writeRegister number value) = accesses (λ m. writeOf m number value) (refused-leaves number value (s .mssp))
+    one-call (feedSample level) =
+        ap (unlent (w .bytes)) (on-state (noState bytes) (λ t. settled (levelVerdict level) 0 (sampledBy t level) bytes) s v)
+        ∙ sampled level
+    one-call (callHandler start n) =
+        ap lends (on-state (lent (noState bytes) (w .bytes)) (λ t. called bytes (callOf t (w .bytes) start n)) s v)
+        ∙ called-if start n (windowFits (length (w .bytes)) start n (s .handler .n))
+    one-call (runTrace start n items) =
+        ap lends (on-state (lent (noState bytes) (w .bytes)) (λ t. ran bytes (runInOf t (w .bytes) start n items)) s v)
+        ∙ ran-if start n items (windowFits (length (w .bytes)) start n (s .handler .n)) (ltb (firstBad items) (length items))
+
+-- Bytes are no state's image, or that of one.
+pub image-or-none :
+    (bytes : List ℕ) → ((decodeOf bytes ≡ NoImage) × ImageOfNone bytes) ⊎ ((s : State) × (decodeOf bytes ≡ Valid s) × ImageOf s bytes)
+image-or-none bytes = by (decodeOf bytes) refl
+  where
+    by : (d : Decoded) → decodeOf bytes ≡ d → ((decodeOf bytes ≡ NoImage) × ImageOfNone bytes) ⊎ ((s : State) × (decodeOf bytes ≡ Valid s) × ImageOf s bytes)
+    by NoImage e = inl (e, λ s image. let z : _≡_ {A = ℕ} 0 1 = cc (decode-exactly bytes s .1 image) in absurd (omega arith))
+    by (Valid s) e = inr (s, e, decode-exactly bytes s .0 e)
+
+-- What holds of a call that answers 6 where there is no state, and else works on the state whose image the bytes are.
+pub by-image {ℓ} :
+    (h : Host) (c : DoorCall) → (decodeOf (h .state) ≡ NoImage → atDoor h c ≡ reply (refused NoState 0) h) → (P : Reply Host → Type ℓ)
+    → (ImageOfNone (h .state) → P (reply (refused NoState 0) h))
+    → ((s : State) → ImageOf s (h .state) → P (imageReply (byDefinition (served s (h .buffer)) c))) → P (atDoor h c)
+by-image h c six P p q =
+    ⊎-elim (λ k. subst P (sym (six (k .0))) (p (k .1)))
+    (λ k.
+    let w : Served = served (k .0) (h .buffer) in
+    subst (λ (b : List ℕ). P (atDoor (host b (h .buffer)) c)) (k .2 .0)
+    (subst P (sym (one-call w (k .2 .1) c)) (q (k .0) (k .2))))
+    (image-or-none (h .state))
+
+-- ---- an image stays an image, so the next state is one
+image-stays : (h : Host) (c : DoorCall) → Image (h .state) → Image (atDoor h c .left .state)
+image-stays h (setUp add n) image =
+    stays (doorSetup (h .state) add n) (setup-keeps (h .state) add n) (setup-leaves (h .state) add n) image
+image-stays h (readRegister number) image = read-stays (h .state) image number
+image-stays h (writeRegister number value) image = write-stays (h .state) image number value
+image-stays h (feedSample level) image = sample-stays (h .state) image level
+image-stays h (callHandler start n) image = call-stays (h .state) image (h .buffer) start n
+image-stays h (runTrace start n items) image = run-stays (h .state) image (h .buffer) start n items
+
+next-valid : (w : Served) (c : DoorCall) → T (validState (w .state)) → T (validState (byDefinition w c .left .state))
+next-valid w c v =
+    image-is (byDefinition w c .left .state)
+    (subst (λ (r : Reply Host). Image (r .left .state)) (one-call w v c)
+    (image-stays (imageHost w) c (record { of = w .state; decodes = decode-encode (w .state) v })))
+
+-- ---- all the calls of a list
+pub record Follows (w : Served) (calls : List DoorCall) : Type 0 where
+  pub valid : T (validState (leftAfter byDefinition w calls .state))
+  pub answered : answers atDoor (imageHost w) calls ≡ answers byDefinition w calls
+  pub left : leftAfter atDoor (imageHost w) calls ≡ imageHost (leftAfter byDefinition w calls)
+
+pub follows : (w : Served) (calls : List DoorCall) → T (validState (w .state)) → Follows w calls
+follows w [] v = record { valid = v; answered = refl; left = refl }
+follows w (c ∷ calls) v =
+    let one = one-call w v c in
+    let rest = follows (byDefinition w c .left) calls (next-valid w c v) in
+    record {
+      valid = rest .valid;
+      answered =
+          ap (λ (r : Reply Host). r .answer ∷ answers atDoor (r .left) calls) one
+          ∙ ap (λ (more : List Answer). byDefinition w c .answer ∷ more) (rest .answered);
+      left = ap (λ (r : Reply Host). leftAfter atDoor (r .left) calls) one ∙ rest .left;
+    }
+
+pub demand-two : DemandTwo
+demand-two s h calls image =
+    let w : Served = served s (h .buffer) in
+    let k = follows w calls (image .1) in
+    let is : h ≡ imageHost w = ap (λ (b : List ℕ). host b (h .buffer)) (sym (image .0)) in
+    rw is (
+      k .answered,
+      (ap (λ (x : Host). x .state) (sym (k .left)), k .valid),
+      ap (λ (x : Host). x .buffer) (k .left),
+      rw (k .left) (on-state noView viewOf (leftAfter byDefinition w calls .state) (k .valid)),
+    )

@@ -1,0 +1,134 @@
+-- The demands, said of the functions that C calls: wherryoar_setup, read, write, sample, call and run, look and find. Statements
+-- alone: their words are in Calls.antt, each is proved in the file that has its name.
+use Prim.Native.Nat.{ℕ, _+_, _<_, _≤_}
+use mathlib.Core.Path.{_≡_}
+use mathlib.Core.List.{List, [], _∷_, map}
+use lib.ListN.{length}
+use Rattle.memory.specs.Memory.{peeked}
+use Rattle.firmware.specs.declared.State.{State}
+use Rattle.firmware.specs.Handler.{Served, served, stateOf, memoryIn, called}
+use Rattle.firmware.specs.Window.{windowOf, splice}
+use Rattle.trace.specs.Theorems.{SameOutside}
+use Rattle.agreement.specs.Joint.{Joint, run, afresh, Agrees}
+use Rattle.image.specs.Image.{imageLength}
+use Rattle.view.specs.View.{viewOf}
+use Rattle.door.specs.declared.Answer.{Answer}
+use Rattle.door.specs.declared.Part.{Part}
+use Rattle.door.specs.Outcome.{done}
+use Rattle.door.specs.Door.{doorLook, doorFind}
+use Rattle.demands.specs.Calls.{DoorCall, setUp, readRegister, callHandler, runTrace, Host, answers, leftAfter, Allows, atDoor, byDefinition, ImageOf, causes, lookCauses, findCauses, Exactly, FirstAbove, OnlyBeside, Beside, AllItems, Feeds, jointItem, firmware}
+
+-- ---- DEMAND 1: every call has one outcome, changes only what it may, and refuses by number, exactly for the causes of the table
+-- Only one answer fits a call's contract, with one state and one buffer. (What look and find answer is an equation as it stands.)
+abbrev pub OneOutcome : Type 0
+OneOutcome =
+    (before : Host) (c : DoorCall) (r t : Answer) (a b : Host) → Allows before c r a → Allows before c t b → (r ≡ t) × (a ≡ b)
+
+-- A refused call changes no byte of state or buffer, and a refused search hands back the empty part at 0.
+abbrev pub RefusedKeeps : Type 0
+RefusedKeeps =
+    ((h : Host) (c : DoorCall) → 0 < atDoor h c .answer .refusal → atDoor h c .left ≡ h)
+    × ((levels : List ℕ) (item : ℕ) → let part : Part = doorFind levels item in
+    0 < part .refusal → (part .start ≡ 0) × (part .length ≡ 0))
+
+-- A handler call and a run change no byte outside their window.
+abbrev pub OutsideKept : Type 0
+OutsideKept =
+    (h : Host) (start n : ℕ) (items : List ℕ)
+    → SameOutside start n (h .buffer) (atDoor h (callHandler start n) .left .buffer)
+    × SameOutside start n (h .buffer) (atDoor h (runTrace start n items) .left .buffer)
+
+-- Every refusal number is answered exactly for its cause, where none that is looked at before it holds.
+abbrev pub ExactCauses : Type 0
+ExactCauses =
+    ((h : Host) (c : DoorCall) → Exactly (atDoor h c .answer .refusal) (causes h c))
+    × ((bytes : List ℕ) → Exactly (doorLook bytes .refusal) (lookCauses bytes))
+    × ((levels : List ℕ) (item : ℕ) → Exactly (doorFind levels item .refusal) (findCauses levels item))
+
+-- Beside refusal 4 of a run and of the finder stands the number of the first bad item, beside everything else 0.
+abbrev pub ItemBeside : Type 0
+ItemBeside =
+    ((h : Host) (c : DoorCall) → let answer : Answer = atDoor h c .answer in
+    OnlyBeside (answer .refusal) (Beside c (answer .item)) (answer .item))
+    × ((levels : List ℕ) (item : ℕ) → let part : Part = doorFind levels item in
+    OnlyBeside (part .refusal) (FirstAbove 3 levels (part .item)) (part .item))
+
+abbrev pub DemandOne : Type 0
+DemandOne = OneOutcome × RefusedKeeps × OutsideKept × ExactCauses × ItemBeside
+
+-- ---- DEMAND 2: from any state's image, after every list of calls, refused ones among them, the answers are the definitions', the
+-- bytes are the image of the state that the definitions give, the buffer is theirs, and look shows that state. It holds of
+-- every list, so after each call of a list.
+abbrev pub DemandTwo : Type 0
+DemandTwo =
+    (s : State) (h : Host) (calls : List DoorCall) → ImageOf s (h .state)
+    → let after : Host = leftAfter atDoor h calls in
+    let w : Served = served s (h .buffer) in
+    let defined : Served = leftAfter byDefinition w calls in
+    (answers atDoor h calls ≡ answers byDefinition w calls)
+    × ImageOf (defined .state) (after .state)
+    × (after .buffer ≡ defined .bytes)
+    × (doorLook (after .state) ≡ viewOf (defined .state))
+
+-- ---- DEMAND 3: for every ADD, every 48 bytes, every buffer, every window of 1 to 256 bytes inside it and every list of items 0 to
+-- 4: set up and fed through the door, in one run, in several or call by call, all is done; the bytes are the image of the joint
+-- run's state, the window holds its bytes, and it agrees with the plain device; the bytes outside the window are as they were.
+-- It holds of every list of items, so after each item of a list.
+abbrev pub DemandThree : Type 0
+DemandThree =
+    (add start n : ℕ) (h : Host) (calls : List DoorCall) (items : List ℕ) → length (h .state) ≡ imageLength → 1 ≤ n → n ≤ 256
+    → start + n ≤ length (h .buffer) → Feeds start n calls items → AllItems items
+    → let after : Host = leftAfter atDoor h (setUp add n ∷ calls) in
+    let joint : Joint = run n add (afresh add (windowOf start n (h .buffer))) (map jointItem items) in
+    (answers atDoor h (setUp add n ∷ calls) ≡ map (λ c. done 0) (setUp add n ∷ calls))
+    × ImageOf (joint .state) (after .state)
+    × (after .buffer ≡ splice start n (joint .bytes) (h .buffer))
+    × Agrees add joint
+    × SameOutside start n (h .buffer) (after .buffer)
+
+-- ---- a run is the calls one after the other: however its items are fed, in runs, samples and handler calls, where the run is
+-- accepted each of these is, and they leave the same bytes and buffer
+abbrev pub RunIsCalls : Type 0
+RunIsCalls =
+    (start n : ℕ) (h : Host) (calls : List DoorCall) (items : List ℕ) → Feeds start n calls items
+    → atDoor h (runTrace start n items) .answer .refusal ≡ 0
+    → (answers atDoor h calls ≡ map (λ c. done 0) calls)
+    × (leftAfter atDoor h calls ≡ atDoor h (runTrace start n items) .left)
+
+-- ---- after an accepted setup look shows, and reads give, CON1 36, CON2 01, CON3 00, MSK FF (hex) and ADD; the rest is as fresh
+abbrev pub SetupRegisters : Type 0
+SetupRegisters =
+    (h : Host) (add n : ℕ) → let after : Host = atDoor h (setUp add n) .left in
+    atDoor h (setUp add n) .answer .refusal ≡ 0
+    → (doorLook (after .state) ≡ record {
+      refusal = 0;
+      buf = 0;
+      stat = 0;
+      con1 = 0x36;
+      con2 = 0x01;
+      con3 = 0x00;
+      add = add;
+      msk = 0xFF;
+      flag = 0;
+      «scl_pulled» = 0;
+      «sda_pulled» = 0;
+      phase = 0;
+      bits = 0;
+      byte = 0;
+      refused = 0;
+      wire = 0xFF;
+      mark = 0;
+      due = 0;
+      n = n;
+      pointer = 0;
+    })
+    × (answers atDoor after (map readRegister (0 ∷ 1 ∷ 2 ∷ 3 ∷ 4 ∷ 5 ∷ 6 ∷ 7 ∷ []))
+    ≡ map done (0 ∷ 0 ∷ 0x36 ∷ 0x01 ∷ 0x00 ∷ add ∷ 0xFF ∷ 0 ∷ []))
+
+-- ---- the handler is a firmware: what an accepted handler call does to the module is what register accesses do
+abbrev pub HandlerIsFirmware : Type 0
+HandlerIsFirmware =
+    (s : State) (h : Host) (start n : ℕ) → ImageOf s (h .state) → atDoor h (callHandler start n) .answer .refusal ≡ 0
+    → let window : List ℕ = windowOf start n (h .buffer) in
+    ImageOf (stateOf (firmware (peeked (memoryIn s window)) (s .mssp)) (called s window .state .handler))
+    (atDoor h (callHandler start n) .left .state)

@@ -1,0 +1,6 @@
+pub mod Calls
+pub mod Demands
+pub mod DemandTwo
+pub mod DemandOne
+pub mod DemandThree
+pub mod HandlerIsFirmware

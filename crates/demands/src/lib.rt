@@ -1,0 +1,1 @@
+// The demands, said of the door's functions: statements and theorems, no code of its own.
