@@ -1,6 +1,5 @@
 -- DEMAND 3: for every ADD, every memory and every list of samples and handler calls, module and handler agree with the
 -- plain device fed by the plain reader.
--- Assumes nothing.
 use Prim.Native.Nat.{ℕ, _+_, _%_, _<_, _≤_, pred}
 use mathlib.Core.Path.{_≡_, refl, sym, ap}
 use mathlib.Core.Bool.{true, false}
@@ -11,7 +10,8 @@ use borrow.Author.Tests.{ne-eqb, le-ltb}
 use Rattle.wire.specs.Byte.{zeroAt}
 use Rattle.firmware.specs.declared.Made.the-variants.{Ready}
 use Rattle.firmware.specs.Handler.{setupOf}
-use Rattle.agreement.specs.Joint.{Item, Joint, run, afresh, SameMemory, EndedByOneCall, PulledWhereOwed, HeldAfterAcknowledge, Agrees}
+use Rattle.steps.specs.declared.Item.{Item}
+use Rattle.agreement.specs.Joint.{Joint, run, afresh, SamplesAndCalls, SameMemory, EndedByOneCall, PulledWhereOwed, HeldAfterAcknowledge, Agrees}
 use Rattle.agreement.specs.Simulation.{Rel, resting, foreign, refused, passing, addressing, ours-low, ours-high, byte-low, byte-high, held-ours, held-byte, taking, held-load, sent-low, sent-high, asked-low, asked-high, run-kept, begins}
 
 -- ---- each of the states shows what demand 3 says
@@ -97,9 +97,10 @@ held-after-acknowledge asked-high h = cc
 
 -- After each item: any list is a list up to some item.
 pub demand-three :
-    (add : ℕ) (bytes : List ℕ) (items : List Item) → Agrees add (run (length bytes) add (afresh add bytes) items)
-demand-three add bytes items =
-    let k = run-kept (length bytes) add (afresh add bytes) items (begins add bytes) in
+    (add : ℕ) (bytes : List ℕ) (items : List Item) → SamplesAndCalls items
+    → Agrees add (run (length bytes) add (afresh add bytes) items)
+demand-three add bytes items p =
+    let k = run-kept (length bytes) add (afresh add bytes) items p (begins add bytes) in
     record {
       memories = same-memory k;
       once = ended-by-one-call k;

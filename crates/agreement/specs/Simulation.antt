@@ -1,5 +1,4 @@
 -- The simulation behind demand 3: which joint states there are, and that every item keeps to them.
--- Assumes nothing.
 use Prim.Native.Nat.{ℕ, _+_, _<_}
 use mathlib.Core.Path.{_≡_, refl, sym}
 use mathlib.Core.Bool.{Bool, true, false, not}
@@ -40,7 +39,9 @@ use Rattle.plain.specs.declared.Turn.the-variants.{Off, Writing, Reading}
 use Rattle.reader.specs.declared.Reader.{Reader}
 use Rattle.reader.specs.Reader.{readerOf, withinFall, placeAfter, heardAt}
 use Rattle.plain.specs.Device.{Plain, plainOf, own, hears}
-use Rattle.agreement.specs.Joint.{Item, sample, call, Joint, joint, held, pulled, beforeAfter, ninthAfter, bothSee, handlerRuns, step, run, afresh}
+use Rattle.steps.specs.declared.Item.{Item}
+use Rattle.steps.specs.declared.Item.the-variants.{Sample, Call}
+use Rattle.agreement.specs.Joint.{Joint, joint, held, pulled, beforeAfter, ninthAfter, step, run, afresh, SamplesAndCalls, ended, sample, call}
 
 -- Which edge a change of the wire can be.
 pub data Move : Remembered → Remembered → Edge → Type 0 where
@@ -295,7 +296,7 @@ looks l d asked-high starts = addressing
 looks l d asked-high stops = resting
 
 -- A handler call: nothing but SSPIF where the clock is not held; in a hold what the device has done already.
-calls : {n add : ℕ} {j : Joint} → Rel n add j → Rel n add (handlerRuns j)
+calls : {n add : ℕ} {j : Joint} → Rel n add j → Rel n add (step n add j Call)
 calls (resting {i = i}) = elim i [ true ↦ resting | false ↦ resting ]
 calls (foreign {i = i}) = elim i [ true ↦ foreign | false ↦ foreign ]
 calls (refused {i = i} e) = elim i [ true ↦ refused e | false ↦ refused e ]
@@ -316,39 +317,39 @@ calls (asked-high {i = i}) = elim i [ true ↦ asked-high | false ↦ asked-high
 
 -- The module runs, and both remember one line: they see one edge.
 running :
-    {n add : ℕ} {j : Joint} (scl sda : Bool) → Rel n add j
-    → edged n add (edgeOf (j .state .mssp .line) scl sda) scl sda j ≡ bothSee n add scl sda j
+    {n add : ℕ} {j : Joint} (l d : Bool) → Rel n add j
+    → (let scl : Bool = onWire (held j) l in let sda : Bool = onWire (pulled j) d in
+    edged n add (edgeOf (j .state .mssp .line) scl sda) scl sda j ≡ step n add j (Sample l d))
 unfolding edged
-running scl sda resting = refl
-running scl sda foreign = refl
-running scl sda (refused e) = refl
-running scl sda passing = refl
-running scl sda addressing = refl
-running scl sda (ours-low e g) = refl
-running scl sda (ours-high e g) = refl
-running scl sda byte-low = refl
-running scl sda byte-high = refl
-running scl sda held-ours = refl
-running scl sda held-byte = refl
-running scl sda taking = refl
-running scl sda held-load = refl
-running scl sda (sent-low h) = refl
-running scl sda (sent-high b y h) = refl
-running scl sda asked-low = refl
-running scl sda asked-high = refl
+running l d resting = refl
+running l d foreign = refl
+running l d (refused e) = refl
+running l d passing = refl
+running l d addressing = refl
+running l d (ours-low e g) = refl
+running l d (ours-high e g) = refl
+running l d byte-low = refl
+running l d byte-high = refl
+running l d held-ours = refl
+running l d held-byte = refl
+running l d taking = refl
+running l d held-load = refl
+running l d (sent-low h) = refl
+running l d (sent-high b y h) = refl
+running l d asked-low = refl
+running l d asked-high = refl
 
 -- ---- the invariant of the joint run
-pub step-kept : (n add : ℕ) (j : Joint) (item : Item) → Rel n add j → Rel n add (step n add j item)
-step-kept n add j (sample l d) h =
+sample-kept : {n add : ℕ} {j : Joint} (l d : Bool) → Rel n add j → Rel n add (step n add j (Sample l d))
+sample-kept {j = j} l d h =
     let y : Line = j .state .mssp .line in
-    let scl : Bool = onWire (held j) l in
-    let sda : Bool = onWire (pulled j) d in
-    rw (running scl sda h) at (looks l d h (move (y .mark) (y .remembered) scl sda))
-step-kept n add j call h = calls h
+    rw (running l d h) at (looks l d h (move (y .mark) (y .remembered) (onWire (held j) l) (onWire (pulled j) d)))
 
-pub run-kept : (n add : ℕ) (j : Joint) (items : List Item) → Rel n add j → Rel n add (run n add j items)
-run-kept n add j [] h = h
-run-kept n add j (item ∷ items) h = run-kept n add (step n add j item) items (step-kept n add j item h)
+pub run-kept :
+    (n add : ℕ) (j : Joint) (items : List Item) → SamplesAndCalls items → Rel n add j → Rel n add (run n add j items)
+run-kept n add j [] ended h = h
+run-kept n add j (Sample l d ∷ items) (sample p) h = run-kept n add (step n add j (Sample l d)) items p (sample-kept l d h)
+run-kept n add j (Call ∷ items) (call p) h = run-kept n add (step n add j Call) items p (calls h)
 
 pub begins : (add : ℕ) (bytes : List ℕ) → Rel (length bytes) add (afresh add bytes)
 begins add bytes = resting
