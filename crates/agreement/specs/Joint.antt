@@ -3,7 +3,7 @@
 use Prim.Native.Nat.{ℕ}
 use mathlib.Core.Path.{_≡_}
 use mathlib.Core.Bool.{Bool, true, false, cond}
-use mathlib.Core.List.{List, [], _∷_}
+use mathlib.Core.List.{List, [], _∷_, _++_}
 use lib.ListN.{length}
 use Rattle.wire.specs.Wire.{edgeOf, onWire, sclHigh}
 use Rattle.mssp.specs.Module.{setup}
@@ -72,13 +72,13 @@ shown j (Read number) = []
 shown j (Write number value) = []
 shown j Nothing = []
 
--- What the reader hears of it.
-abbrev pub heardOf : Reader → List Level → Heard
-heardOf r [] = Silence
-heardOf r (level scl sda ∷ levels) = heardAt (r .place) (edgeOf (r .line) scl sda)
+-- What the reader hears of that, one level at most.
+abbrev pub heardFrom : Reader → List Level → Heard
+heardFrom r [] = Silence
+heardFrom r (level scl sda ∷ levels) = heardAt (r .place) (edgeOf (r .line) scl sda)
 
 abbrev pub heardIn : Joint → Item → Heard
-heardIn j item = heardOf (j .reader) (shown j item)
+heardIn j item = heardFrom (j .reader) (shown j item)
 
 -- An item is one step of module, handler and window; the reader reads what the wire shows of it, and the device hears that.
 abbrev pub step : ℕ → ℕ → Joint → Item → Joint
@@ -97,6 +97,11 @@ step n add j item =
 abbrev pub run : ℕ → ℕ → Joint → List Item → Joint
 run n add j [] = j
 run n add j (item ∷ items) = run n add (step n add j item) items
+
+-- What the wire shows during a joint run.
+abbrev pub wires : ℕ → ℕ → Joint → List Item → List Level
+wires n add j [] = []
+wires n add j (item ∷ items) = shown j item ++ wires n add (step n add j item) items
 
 -- Set up afresh over some bytes.
 abbrev pub afresh : ℕ → List ℕ → Joint
