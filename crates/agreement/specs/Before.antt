@@ -1,6 +1,5 @@
 -- Before the first Start on record nothing happens: no pull, no hold, no interrupt, no change of memory or pointer. So the
 -- clocks that a record begins with are never taken for an address.
--- Assumes nothing.
 use Prim.Native.Nat.{ℕ}
 use mathlib.Core.Path.{_≡_, refl}
 use mathlib.Core.Bool.{Bool, true, false}
@@ -9,79 +8,66 @@ use lib.ListN.{length}
 use Rattle.wire.specs.declared.Edge.{Edge}
 use Rattle.wire.specs.declared.Edge.the-variants.{Still, Start, Stop, Rise, Fall}
 use Rattle.wire.specs.declared.Line.{Line}
-use Rattle.wire.specs.Wire.{edgeOf, onWire}
+use Rattle.wire.specs.Wire.{edgeOf}
 use Rattle.mssp.specs.declared.Live.{Live}
 use Rattle.mssp.specs.declared.Phase.the-variants.{Quiet}
 use Rattle.mssp.specs.Module.{moduleOf, chosen, liveOf}
 use Rattle.memory.specs.Memory.{memoryOf}
 use Rattle.firmware.specs.Handler.{stateOf, handlerOf}
 use Rattle.reader.specs.declared.Heard.{Heard}
-use Rattle.reader.specs.declared.Heard.the-variants.{Silence, Started}
+use Rattle.reader.specs.declared.Heard.the-variants.{Started}
 use Rattle.reader.specs.declared.Place.the-variants.{Idle}
 use Rattle.plain.specs.declared.Turn.the-variants.{Off}
 use Rattle.reader.specs.Reader.{readerOf, heardAt}
-use Rattle.plain.specs.Device.{plainOf}
-use Rattle.agreement.specs.Joint.{Item, sample, call, Joint, joint, held, pulled, memory, step, run, afresh}
-use Rattle.agreement.specs.Simulation.{edged}
+use Rattle.plain.specs.Device.{plainOf, hears}
+use Rattle.steps.specs.declared.Item.{Item}
+use Rattle.steps.specs.declared.Item.the-variants.{Sample, Call}
+use Rattle.agreement.specs.Joint.{Joint, joint, beforeAfter, ninthAfter, step, run, afresh, SamplesAndCalls, ended, sample, call, NoStart, Untouched}
+use Rattle.course.specs.Following.{moduleAtEdge, readerAtEdge}
 
--- What the reader hears of an item.
-abbrev pub heardIn : Joint → Item → Heard
-heardIn j (sample scl sda) = heardAt (j .reader .place) (edgeOf (j .reader .line) (onWire (held j) scl) (onWire (pulled j) sda))
-heardIn j call = Silence
-
--- No Start is heard during a run.
-abbrev pub NoStart : ℕ → ℕ → Joint → List Item → Type 0
-NoStart n add j [] = Unit {0}
-NoStart n add j (item ∷ items) = (heardIn j item ≡ Started → ⊥) × NoStart n add (step n add j item) items
-
-abbrev idle : Bool → Live
-idle p = liveOf false p false false false false true false false false 0
+abbrev asSetUp : Bool → Live
+asSetUp p = liveOf false p false false false false true false false false 0
 
 -- The states until then: as set up, but for the wire remembered and P, which a Stop sets.
-abbrev waiting : ℕ → ℕ → List ℕ → Line → Bool → Joint
-waiting n add bytes y p =
-    joint (stateOf (moduleOf (chosen add) (idle p) Quiet y) (handlerOf n 0 false)) bytes (readerOf y Idle)
+abbrev beforeStart : ℕ → ℕ → List ℕ → Line → Bool → Joint
+beforeStart n add bytes y p =
+    joint (stateOf (moduleOf (chosen add) (asSetUp p) Quiet y) (handlerOf n 0 false)) bytes (readerOf y Idle)
     (plainOf (memoryOf bytes 0) Off) (memoryOf bytes 0) true
 
-data Waits (n add : ℕ) (bytes : List ℕ) : Joint → Type 0 where
-  waits : {y : Line} {p : Bool} → Waits n add bytes (waiting n add bytes y p)
+data Unstarted (n add : ℕ) (bytes : List ℕ) : Joint → Type 0 where
+  unstarted : {y : Line} {p : Bool} → Unstarted n add bytes (beforeStart n add bytes y p)
+
+-- The joint state after an edge.
+abbrev edged : ℕ → ℕ → Edge → Bool → Bool → Joint → Joint
+edged n add e scl sda j =
+    let heard : Heard = heardAt (j .reader .place) e in
+    joint (stateOf (moduleAtEdge e scl sda (j .state .mssp)) (j .state .handler)) (j .bytes) (readerAtEdge e scl sda (j .reader))
+    (hears n add heard (j .device)) (beforeAfter heard (j .device .memory) (j .before)) (ninthAfter heard (j .ninth))
 
 edge-waits :
     {n add : ℕ} {bytes : List ℕ} (y : Line) (p scl sda : Bool) (e : Edge) → (heardAt Idle e ≡ Started → ⊥)
-    → Waits n add bytes (edged n add e scl sda (waiting n add bytes y p))
-unfolding edged
-edge-waits y p scl sda Still h = waits
+    → Unstarted n add bytes (edged n add e scl sda (beforeStart n add bytes y p))
+unfolding moduleAtEdge readerAtEdge
+edge-waits y p scl sda Still h = unstarted
 edge-waits y p scl sda Start h = absurd (h refl)
-edge-waits y p scl sda Stop h = waits
-edge-waits y p scl sda (Rise level) h = waits
-edge-waits y p scl sda Fall h = waits
-
-step-waits :
-    (n add : ℕ) (bytes : List ℕ) (j : Joint) (item : Item) → (heardIn j item ≡ Started → ⊥) → Waits n add bytes j
-    → Waits n add bytes (step n add j item)
-unfolding edged
-step-waits n add bytes j (sample scl sda) h (waits {y = y} {p = p}) = edge-waits y p scl sda (edgeOf y scl sda) h
-step-waits n add bytes j call h waits = waits
+edge-waits y p scl sda Stop h = unstarted
+edge-waits y p scl sda (Rise level) h = unstarted
+edge-waits y p scl sda Fall h = unstarted
 
 run-waits :
-    (n add : ℕ) (bytes : List ℕ) (j : Joint) (items : List Item) → NoStart n add j items → Waits n add bytes j
-    → Waits n add bytes (run n add j items)
-run-waits n add bytes j [] h w = w
-run-waits n add bytes j (item ∷ items) h w =
-    run-waits n add bytes (step n add j item) items (h .1) (step-waits n add bytes j item (h .0) w)
+    (n add : ℕ) (bytes : List ℕ) (j : Joint) (items : List Item) → SamplesAndCalls items → NoStart n add j items
+    → Unstarted n add bytes j → Unstarted n add bytes (run n add j items)
+unfolding moduleAtEdge readerAtEdge
+run-waits n add bytes j [] ended h w = w
+run-waits n add bytes j (Sample scl sda ∷ items) (sample p) h (unstarted {y = y} {p = stop}) =
+    run-waits n add bytes (step n add j (Sample scl sda)) items p (h .1) (edge-waits y stop scl sda (edgeOf y scl sda) (h .0))
+run-waits n add bytes j (Call ∷ items) (call p) h unstarted = run-waits n add bytes (step n add j Call) items p (h .1) unstarted
 
--- What a user reads off it.
-pub record Untouched (bytes : List ℕ) (j : Joint) : Type 0 where
-  pub no-pull : pulled j ≡ false
-  pub no-hold : held j ≡ false
-  pub no-interrupt : j .state .mssp .live .sspif ≡ false
-  pub no-change : memory j ≡ memoryOf bytes 0
-
-untouched : (n add : ℕ) (bytes : List ℕ) (j : Joint) → Waits n add bytes j → Untouched bytes j
-untouched n add bytes j waits = record { no-pull = refl; no-hold = refl; no-interrupt = refl; no-change = refl }
+untouched : {n add : ℕ} {bytes : List ℕ} {j : Joint} → Unstarted n add bytes j → Untouched bytes j
+untouched unstarted = record { no-pull = refl; no-hold = refl; no-interrupt = refl; no-change = refl }
 
 pub before-the-first-start :
-    (add : ℕ) (bytes : List ℕ) (items : List Item) → NoStart (length bytes) add (afresh add bytes) items
-    → Untouched bytes (run (length bytes) add (afresh add bytes) items)
-before-the-first-start add bytes items h =
-    untouched (length bytes) add bytes _ (run-waits (length bytes) add bytes (afresh add bytes) items h waits)
+    (add : ℕ) (bytes : List ℕ) (items : List Item) → SamplesAndCalls items
+    → NoStart (length bytes) add (afresh add bytes) items → Untouched bytes (run (length bytes) add (afresh add bytes) items)
+before-the-first-start add bytes items p h =
+    untouched (run-waits (length bytes) add bytes (afresh add bytes) items p h unstarted)

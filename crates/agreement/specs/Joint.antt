@@ -1,28 +1,26 @@
--- The joint run of module and handler with plain reader and plain device, and what demand 3 says of it.
--- Assumes nothing.
+-- The joint run of module and handler with plain reader and plain device, what demand 3 says of it, and what it says of the
+-- time before the first Start.
 use Prim.Native.Nat.{ℕ}
 use mathlib.Core.Path.{_≡_}
 use mathlib.Core.Bool.{Bool, true, false, cond}
-use mathlib.Core.List.{List, [], _∷_}
+use mathlib.Core.List.{List, [], _∷_, _++_}
 use lib.ListN.{length}
 use Rattle.wire.specs.Wire.{edgeOf, onWire, sclHigh}
 use Rattle.mssp.specs.Module.{setup}
 use Rattle.mssp.specs.Drivers.{sclPulled, sdaPulled}
-use Rattle.sampling.specs.Rules.{seen}
 use Rattle.memory.specs.Memory.{Memory, memoryOf}
 use Rattle.firmware.specs.declared.State.{State}
-use Rattle.firmware.specs.Handler.{Served, stateOf, handlerOf, called}
+use Rattle.firmware.specs.Handler.{Served, served, stateOf, handlerOf}
+use Rattle.steps.specs.declared.Item.{Item}
+use Rattle.steps.specs.declared.Item.the-variants.{Sample, Call, Read, Write, Nothing}
+use Rattle.steps.specs.Step.{after}
 use Rattle.reader.specs.declared.Reader.{Reader}
 use Rattle.reader.specs.declared.Heard.{Heard}
 use Rattle.reader.specs.declared.Heard.the-variants.{Silence, Started, Stopped, Byte}
 use Rattle.plain.specs.declared.Turn.the-variants.{Off}
-use Rattle.reader.specs.Reader.{heardAt, readerAfter, readerAfresh}
+use Rattle.reader.specs.Reader.{heardAt, readerAfresh}
+use Rattle.reader.specs.Record.{Level, level, readAll}
 use Rattle.plain.specs.Device.{Plain, plainOf, hears, owes}
-
--- An item: what everybody else drives, SCL and SDA; or a handler call.
-pub data Item : Type 0 where
-  sample : Bool → Bool → Item
-  call : Item
 
 -- Module and handler with the bytes of their window; the plain reader; the plain device; its memory before the last byte,
 -- and the level of that byte's ninth clock.
@@ -54,40 +52,56 @@ abbrev pub beforeAfter : Heard → Memory → Memory → Memory
 beforeAfter Silence now before = before
 beforeAfter Started now before = before
 beforeAfter Stopped now before = before
-beforeAfter (Byte first byte level) now before = now
+beforeAfter (Byte first byte ninth) now before = now
 
 abbrev pub ninthAfter : Heard → Bool → Bool
-ninthAfter Silence level = level
-ninthAfter Started level = level
-ninthAfter Stopped level = level
-ninthAfter (Byte first byte now) level = now
+ninthAfter Silence before = before
+ninthAfter Started before = before
+ninthAfter Stopped before = before
+ninthAfter (Byte first byte ninth) before = ninth
 
--- A wire level is seen by both.
-abbrev pub bothSee : ℕ → ℕ → Bool → Bool → Joint → Joint
-bothSee n add scl sda j =
-    let heard : Heard = heardAt (j .reader .place) (edgeOf (j .reader .line) scl sda) in
+-- Module, handler and window, as the items of a run leave them.
+abbrev pub left : Joint → Served
+left j = served (j .state) (j .bytes)
+
+-- What the wire shows of an item: a level for a sample, which is low where the module pulls; nothing for any other.
+abbrev pub shown : Joint → Item → List Level
+shown j (Sample scl sda) = level (onWire (held j) scl) (onWire (pulled j) sda) ∷ []
+shown j Call = []
+shown j (Read number) = []
+shown j (Write number value) = []
+shown j Nothing = []
+
+-- What the reader hears of that, one level at most.
+abbrev pub heardFrom : Reader → List Level → Heard
+heardFrom r [] = Silence
+heardFrom r (level scl sda ∷ levels) = heardAt (r .place) (edgeOf (r .line) scl sda)
+
+abbrev pub heardIn : Joint → Item → Heard
+heardIn j item = heardFrom (j .reader) (shown j item)
+
+-- An item is one step of module, handler and window; the reader reads what the wire shows of it, and the device hears that.
+abbrev pub step : ℕ → ℕ → Joint → Item → Joint
+step n add j item =
+    let done : Served = after (left j) item in
+    let heard : Heard = heardIn j item in
     record {
-      state = stateOf (seen (j .state .mssp) scl sda) (j .state .handler);
-      bytes = j .bytes;
-      reader = readerAfter (j .reader) scl sda;
+      state = done .state;
+      bytes = done .bytes;
+      reader = readAll (j .reader) (shown j item);
       device = hears n add heard (j .device);
       before = beforeAfter heard (j .device .memory) (j .before);
       ninth = ninthAfter heard (j .ninth);
     }
 
--- The handler is called; reader and device see nothing of it.
-abbrev pub handlerRuns : Joint → Joint
-handlerRuns j =
-    let done : Served = called (j .state) (j .bytes) in
-    record { state = done .state; bytes = done .bytes; reader = j .reader; device = j .device; before = j .before; ninth = j .ninth }
-
-abbrev pub step : ℕ → ℕ → Joint → Item → Joint
-step n add j (sample scl sda) = bothSee n add (onWire (held j) scl) (onWire (pulled j) sda) j
-step n add j call = handlerRuns j
-
 abbrev pub run : ℕ → ℕ → Joint → List Item → Joint
 run n add j [] = j
 run n add j (item ∷ items) = run n add (step n add j item) items
+
+-- What the wire shows during a joint run.
+abbrev pub wires : ℕ → ℕ → Joint → List Item → List Level
+wires n add j [] = []
+wires n add j (item ∷ items) = shown j item ++ wires n add (step n add j item) items
 
 -- Set up afresh over some bytes.
 abbrev pub afresh : ℕ → List ℕ → Joint
@@ -101,14 +115,20 @@ afresh add bytes =
       ninth = true;
     }
 
--- ---- what demand 3 says after an item
+-- ---- what demand 3 says after an item of a run
+-- It speaks of samples and handler calls; a register access from outside is none of the handler's.
+pub data SamplesAndCalls : List Item → Type 0 where
+  ended : SamplesAndCalls []
+  sample : {scl sda : Bool} {items : List Item} → SamplesAndCalls items → SamplesAndCalls (Sample scl sda ∷ items)
+  call : {items : List Item} → SamplesAndCalls items → SamplesAndCalls (Call ∷ items)
+
 -- Memory and pointer are the plain device's while the clock is not held, those before the last byte while it is.
 abbrev pub SameMemory : Joint → Type 0
 SameMemory j = memory j ≡ cond (held j) (j .before) (j .device .memory)
 
 -- One handler call ends a hold.
 abbrev pub EndedByOneCall : Joint → Type 0
-EndedByOneCall j = held (handlerRuns j) ≡ false
+EndedByOneCall j = sclPulled (after (left j) Call .state .mssp .phase) ≡ false
 
 -- SDA is pulled exactly where the plain device owes a low.
 abbrev pub PulledWhereOwed : ℕ → Joint → Type 0
@@ -123,3 +143,16 @@ pub record Agrees (add : ℕ) (j : Joint) : Type 0 where
   pub once : EndedByOneCall j
   pub owed : PulledWhereOwed add j
   pub acknowledged : HeldAfterAcknowledge j
+
+-- ---- before the first Start
+-- No Start is heard during a run.
+abbrev pub NoStart : ℕ → ℕ → Joint → List Item → Type 0
+NoStart n add j [] = Unit {0}
+NoStart n add j (item ∷ items) = (heardIn j item ≡ Started → ⊥) × NoStart n add (step n add j item) items
+
+-- No pull, no hold, no interrupt, no change of memory or pointer.
+pub record Untouched (bytes : List ℕ) (j : Joint) : Type 0 where
+  pub no-pull : pulled j ≡ false
+  pub no-hold : held j ≡ false
+  pub no-interrupt : j .state .mssp .live .sspif ≡ false
+  pub no-change : memory j ≡ memoryOf bytes 0

@@ -1,5 +1,5 @@
 pub mod Joint
-pub mod Simulation
+pub mod Serving
 pub mod Demand
 pub mod Record
 pub mod Before
