@@ -13,7 +13,6 @@ use Rattle.refusals.specs.declared.Verdict.{Verdict}
 use Rattle.refusals.specs.declared.Verdict.the-variants.{Done, Refused}
 use Rattle.refusals.specs.Numbers.{numberOf}
 use Rattle.wire.specs.Byte.{bit}
-use Rattle.wire.specs.Wire.{sclOf, sdaOf}
 use Rattle.mssp.specs.declared.Module.{Module}
 use Rattle.registers.specs.Values.{readOf}
 use Rattle.writes.specs.Writes.{writeOf}
@@ -26,7 +25,6 @@ use Rattle.steps.specs.declared.Item.{Item}
 use Rattle.steps.specs.declared.Item.the-variants.{Call, Read, Write}
 use Rattle.steps.specs.Step.{Stepped, stepOf, afterAll}
 use Rattle.trace.specs.Run.{firstBad, itemIf, itemAt}
-use Rattle.agreement.specs.Joint.{Item as JointItem, sample as jointSample, call as jointCall}
 use Rattle.image.specs.Image.{imageLength, validState, encodeOf}
 use Rattle.door.specs.declared.Answer.{Answer}
 use Rattle.door.specs.Outcome.{Lent, outcome, lent, done, refused}
@@ -217,10 +215,6 @@ pub data Feeds (start n : ℕ) : List DoorCall → List ℕ → Type 0 where
   one-more :
       {c : DoorCall} {calls : List DoorCall} {items rest : List ℕ} → Asks start n c items → Feeds start n calls rest
       → Feeds start n (c ∷ calls) (items ++ rest)
-
--- An item of a trace as one of the joint run.
-abbrev pub jointItem : ℕ → JointItem
-jointItem item = cond (ltb item 4) (jointSample (sclOf item) (sdaOf item)) jointCall
 
 -- ---- a firmware: register accesses and nothing else
 -- What a register shows; what a read and a write of it leave.

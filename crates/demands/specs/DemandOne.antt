@@ -18,6 +18,7 @@ use Rattle.refusals.specs.declared.Verdict.{Verdict}
 use Rattle.refusals.specs.declared.Verdict.the-variants.{Done, Refused}
 use Rattle.refusals.specs.Numbers.{numberOf}
 use Rattle.wire.specs.Byte.{bit}
+use Rattle.mssp.specs.declared.Module.{Module}
 use Rattle.mssp.specs.Module.{modelled, setup}
 use Rattle.registers.specs.declared.Register.{Register}
 use Rattle.registers.specs.declared.Register.the-variants.{Buf, Stat, Con1, Con2, Con3, Add, Msk, Flag, Nowhere}
@@ -266,10 +267,10 @@ told-if true why = refl
 told-if false why = refl
 
 write-number :
-    (number v : ℕ)
+    (number v : ℕ) (m : Module)
     → told (verdictOf (registerOf number) v m) .refusal
     ≡ cond (ltb 7 number) 1 (cond (reserves number v) 2 (cond (eqb number 2 && noMode v) 3 0))
-write-number number v =
+write-number number v m =
     by-register
     (λ n r. told (verdictOf r v m) .refusal ≡ cond (ltb 7 n) 1 (cond (reserves n v) 2 (cond (eqb n 2 && noMode v) 3 0)))
     refl refl (told-if (noMode v) NoMode) (told-if (not (eqb (v / 2 % 16) 0)) ReservedBit) (told-if (bit 4 v) ReservedBit)
@@ -334,7 +335,7 @@ module _ (h : Host) where
   looked (writeRegister number value) =
       on-image (writeRegister number value) (λ e. rw e)
       (λ s image.
-      told-first (writeOf (s .mssp) number value .verdict) (write-number number value)
+      told-first (writeOf (s .mssp) number value .verdict) (write-number number value (s .mssp))
       (tested (ltb 7 number) (below 7 number) (λ e. refl, λ e. refl)
       (tested (reserves number value) (reserved number value) (λ e. refl, λ e. refl)
       (tested (eqb number 2 && noMode value) (no-mode number value) (λ e. refl, λ e. refl) none))))

@@ -2,7 +2,7 @@
 -- demand 3.
 use Prim.Native.Nat.{ℕ, _+_, _≤_}
 use mathlib.Core.Path.{_≡_, refl, sym, ap, _∙_, subst}
-use mathlib.Core.Bool.{Bool, true, false, cond, _||_}
+use mathlib.Core.Bool.{Bool, true, false, true≢false, cond, _||_}
 use mathlib.Core.List.{List, [], _∷_, map, _++_}
 use native.Mathlib.Omega.{arith}
 use lib.Dec.{T, eqb, ltb}
@@ -20,9 +20,10 @@ use Rattle.firmware.specs.Window.{windowOf, splice, inBuffer}
 use Rattle.firmware.specs.Laws.{inside}
 use Rattle.steps.specs.declared.Item.{Item}
 use Rattle.steps.specs.Step.{afterAll}
-use Rattle.trace.specs.Run.{firstBad, stepIf, stepOf, itemAt, runFrom, runOf}
+use Rattle.trace.specs.Run.{firstBad, stepIf, stepOf, itemIf, itemAt, runFrom, runOf}
 use Rattle.trace.specs.Theorems.{run-joined, run-length, window-length, SameOutside, splice-outside}
-use Rattle.agreement.specs.Joint.{Joint, step, run, afresh, Agrees}
+use Rattle.agreement.specs.Joint.{Joint, run, afresh, SamplesAndCalls, ended, sample, call as call-more, Agrees}
+use Rattle.agreement.specs.Record.{joint-run-is-the-run}
 use Rattle.agreement.specs.Demand.{demand-three}
 use Rattle.image.specs.Image.{imageLength, validState, encodeOf}
 use Rattle.view.specs.View.{viewOf, noView}
@@ -30,7 +31,7 @@ use Rattle.door.specs.declared.Answer.{Answer}
 use Rattle.door.specs.Door.{setupIf, doorSetup}
 use Rattle.door.specs.Outcome.{byState, done}
 use Rattle.doorkept.specs.Image.{setup-leaves}
-use Rattle.demands.specs.Calls.{DoorCall, setUp, readRegister, runTrace, Host, host, Reply, reply, answers, leftAfter, atDoor, fits, inWindow, byDefinition, AllItems, Asks, a-run, a-sample, a-call, Feeds, nothing, one-more, jointItem}
+use Rattle.demands.specs.Calls.{DoorCall, setUp, readRegister, runTrace, Host, host, Reply, reply, answers, leftAfter, atDoor, fits, inWindow, byDefinition, AllItems, Asks, a-run, a-sample, a-call, Feeds, nothing, one-more}
 use Rattle.demands.specs.Demands.{SetupRegisters, RunIsCalls, DemandThree}
 use Rattle.demands.specs.DemandTwo.{image-is, on-state, follows, imageHost, by-image, Follows}
 
@@ -201,25 +202,22 @@ run-is-calls start n h calls items feeds =
     (image .0) (all .answered ∙ parts .answered, all .left ∙ ap imageHost (parts .left ∙ sym (ap (λ (r : Reply Served). r .left) whole))))
 
 -- ---- demand 3
--- The joint run's state and bytes are those of the run
-module _ (n add : ℕ) where
-  joint-step :
-      (j : Joint) (item : ℕ) → item ≤ 4
-      → let next : Joint = step n add j (jointItem item) in
-      stepOf (j .state) (j .bytes) item ≡ served (next .state) (next .bytes)
-  joint-step j item h =
-      by-test (ltb item 4) (λ t. rw t)
-      (λ t. let l = ltb-false item 4 t in rw (t, eq-eqb item 4 (omega arith)))
+-- A trace of items is made of samples and handler calls.
+joined-by :
+    (level call : Bool) (x : ℕ) {items : List Item} → level || call ≡ true → SamplesAndCalls items
+    → SamplesAndCalls (itemIf level call x ∷ items)
+joined-by true call x e p = sample p
+joined-by false true x e p = call-more p
+joined-by false false x e p = absurd (true≢false (sym e))
 
-  joint-run :
-      (j : Joint) (items : List ℕ) → AllItems items
-      → let all : Joint = run n add j (map jointItem items) in
-      runOf (j .state) (j .bytes) items ≡ served (all .state) (all .bytes)
-  unfolding afterAll
-  joint-run j [] good = refl
-  joint-run j (x ∷ xs) good =
-      ap (λ (w : Served). runFrom w xs) (joint-step j x (good 0 (omega arith)))
-      ∙ joint-run (step n add j (jointItem x)) xs (good-rest (x ∷ []) xs good)
+samples-and-calls : (items : List ℕ) → AllItems items → SamplesAndCalls (map itemAt items)
+samples-and-calls [] good = ended
+samples-and-calls (x ∷ xs) good =
+    joined-by (ltb x 4) (eqb x 4) x (at-most-four x (good 0 (omega arith))) (samples-and-calls xs (good-rest (x ∷ []) xs good))
+  where
+    at-most-four : (k : ℕ) → k ≤ 4 → ltb k 4 || eqb k 4 ≡ true
+    at-most-four k h =
+        by-test (ltb k 4) (λ t. rw t) (λ t. let l = ltb-false k 4 t in rw (t, eq-eqb k 4 (omega arith)))
 
 -- A setup with a length of 1 to 256 is accepted, and makes the state that the joint run begins with.
 setup-begins :
@@ -234,7 +232,7 @@ demand-three-at-door add start n h calls items long low high inside feeds good =
       ∙ ap (λ (more : List Answer). done 0 ∷ more) (all-follow .answered ∙ all-fed .answered),
   (sym (ap (λ (x : Host). x .state) left), rw defined at (all-follow .valid)),
   ap (λ (x : Host). x .buffer) left,
-  subst (λ (k : ℕ). Agrees add (run k add (afresh add window) (map jointItem items))) sized (demand-three add window (map jointItem items)),
+  subst (λ (k : ℕ). Agrees add (run k add (afresh add window) (map itemAt items))) sized (demand-three add window (map itemAt items) (samples-and-calls items good)),
   rw left outside,
 )
   where
@@ -260,10 +258,10 @@ demand-three-at-door add start n h calls items long low high inside feeds good =
     all-follow = follows begun calls (setup-valid (h .state) add n (ap (λ (r : Reply Host). r .answer .refusal) begins))
 
     joint : Joint
-    joint = run n add (afresh add window) (map jointItem items)
+    joint = run n add (afresh add window) (map itemAt items)
 
     ran : runOf (madeFor add n) window items ≡ served (joint .state) (joint .bytes)
-    ran = ap (λ (k : ℕ). runOf (madeFor add k) window items) (sym sized) ∙ joint-run n add (afresh add window) items good
+    ran = ap (λ (k : ℕ). runOf (madeFor add k) window items) (sym sized) ∙ sym (joint-run-is-the-run n add (afresh add window) (map itemAt items))
 
     ended : Served
     ended = served (joint .state) (splice start n (joint .bytes) (h .buffer))
