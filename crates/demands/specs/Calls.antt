@@ -100,8 +100,8 @@ inWindow true false item w start n items =
     reply (done 0) (inBuffer (λ window. afterAll (served (w .state) window) items) (w .bytes) start n)
 
 -- The window lies inside the buffer and has the setup's length.
-abbrev pub fits : Served → ℕ → ℕ → Bool
-fits w start n = windowFits (length (w .bytes)) start n (w .state .handler .n)
+abbrev pub hasWindow : Served → ℕ → ℕ → Bool
+hasWindow w start n = windowFits (length (w .bytes)) start n (w .state .handler .n)
 
 abbrev pub madeOf : Made → Served → Reply Served
 madeOf (Ready s) w = reply (done 0) (served s (w .bytes))
@@ -112,9 +112,9 @@ byDefinition w (setUp add n) = madeOf (setupOf add n) w
 byDefinition w (readRegister number) = stepBy w (Read number)
 byDefinition w (writeRegister number value) = stepBy w (Write number value)
 byDefinition w (feedSample level) = stepBy w (itemIf (ltb level 4) false level)
-byDefinition w (callHandler start n) = inWindow (fits w start n) false 0 w start n (Call ∷ [])
+byDefinition w (callHandler start n) = inWindow (hasWindow w start n) false 0 w start n (Call ∷ [])
 byDefinition w (runTrace start n items) =
-    inWindow (fits w start n) (ltb (firstBad items) (length items)) (firstBad items) w start n (map itemAt items)
+    inWindow (hasWindow w start n) (ltb (firstBad items) (length items)) (firstBad items) w start n (map itemAt items)
 
 -- ---- the image of a state, and bytes that are no state's
 abbrev pub ImageOf : State → List ℕ → Type 0
@@ -225,24 +225,24 @@ shown (Refused why) = 0
 abbrev pub shows : ℕ → Module → ℕ
 shows number m = shown (readOf m number .verdict)
 
-abbrev pub reading : ℕ → Module → Module
-reading number m = readOf m number .mssp
+abbrev pub afterReading : ℕ → Module → Module
+afterReading number m = readOf m number .mssp
 
-abbrev pub writing : ℕ → ℕ → Module → Module
-writing number value m = writeOf m number value .mssp
+abbrev pub afterWriting : ℕ → ℕ → Module → Module
+afterWriting number value m = writeOf m number value .mssp
 
 -- CON1 (2) is written with what it holds and CKP (bit 4) 1.
 abbrev pub settingCKP : Module → Module
-settingCKP m = let held : ℕ = shows 2 m in writing 2 (cond (bit 4 held) held (held + 16)) m
+settingCKP m = let held : ℕ = shows 2 m in afterWriting 2 (cond (bit 4 held) held (held + 16)) m
 
 -- What is done by SSPIF, CKP, R/W and D/A: the flag (7) is written 0; BUF (0) is read, or written with the byte at the pointer,
 -- after a read address both; last, CKP 1.
 abbrev pub firmwareIf : Bool → Bool → Bool → Bool → ℕ → Module → Module
 firmwareIf false ckp rw da byte m = m
-firmwareIf true true rw da byte m = writing 7 0 m
-firmwareIf true false false da byte m = settingCKP (reading 0 (writing 7 0 m))
-firmwareIf true false true false byte m = settingCKP (writing 0 byte (reading 0 (writing 7 0 m)))
-firmwareIf true false true true byte m = settingCKP (writing 0 byte (writing 7 0 m))
+firmwareIf true true rw da byte m = afterWriting 7 0 m
+firmwareIf true false false da byte m = settingCKP (afterReading 0 (afterWriting 7 0 m))
+firmwareIf true false true false byte m = settingCKP (afterWriting 0 byte (afterReading 0 (afterWriting 7 0 m)))
+firmwareIf true false true true byte m = settingCKP (afterWriting 0 byte (afterWriting 7 0 m))
 
 -- The four bits as the registers show them: flag (7), CON1 (2) and STAT (1).
 abbrev pub firmware : ℕ → Module → Module

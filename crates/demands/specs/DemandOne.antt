@@ -49,12 +49,12 @@ use Rattle.door.specs.declared.Part.{Part as Parted}
 use Rattle.door.specs.Outcome.{refused, byState}
 use Rattle.door.specs.Door.{setupIf, doorLook, doorFind}
 use Rattle.door.specs.Theorems.{one-lent, setup-keeps, read-keeps, write-keeps, sample-keeps, call-keeps, run-keeps}
-use Rattle.demands.specs.Calls.{DoorCall, setUp, readRegister, writeRegister, feedSample, callHandler, runTrace, Host, host, reply, atDoor, told, inWindow, fits, byDefinition, ImageOf, ImageOfNone, SetsReserved, SetsNoMode, SetUpFor, FitsNot, SomeAbove, Cause, _when_, causes, lookCauses, findCauses, Numbered, FirstAbove, OnlyBeside, Beside}
+use Rattle.demands.specs.Calls.{DoorCall, setUp, readRegister, writeRegister, feedSample, callHandler, runTrace, Host, host, reply, atDoor, told, inWindow, hasWindow, byDefinition, ImageOf, ImageOfNone, SetsReserved, SetsNoMode, SetUpFor, FitsNot, SomeAbove, Cause, _when_, causes, lookCauses, findCauses, Numbered, FirstAbove, OnlyBeside, Beside}
 use Rattle.demands.specs.Demands.{OneOutcome, RefusedKeeps, OutsideKept, ExactCauses, ItemBeside, DemandOne}
 use Rattle.demands.specs.DemandTwo.{image-or-none, by-image}
 
-pub one-outcome : OneOutcome
-one-outcome before c r t a b e f = let one = one-lent e f in (one .0, ap₂ host (one .1) (one .2))
+pub one-reply : OneOutcome
+one-reply before c r t a b e f = let one = one-lent e f in (one .0, ap₂ host (one .1) (one .2))
 
 -- ---- refused, nothing changes
 keeps : (h : Host) (c : DoorCall) → 0 < atDoor h c .answer .refusal → atDoor h c .left ≡ h
@@ -74,7 +74,7 @@ refused-keeps = (keeps, λ levels item. empty-part (spanOf levels item))
 
 -- ---- outside the window
 outside-if :
-    (w : Served) (start n : ℕ) (trace : List ℕ) (f bad : Bool) (item : ℕ) → f ≡ fits w start n
+    (w : Served) (start n : ℕ) (trace : List ℕ) (f bad : Bool) (item : ℕ) → f ≡ hasWindow w start n
     → SameOutside start n (w .bytes) (inWindow f bad item w start n (map itemAt trace) .left .bytes)
 outside-if w start n trace false bad item e = record { below = refl; above = refl }
 outside-if w start n trace true true item e = record { below = refl; above = refl }
@@ -89,12 +89,12 @@ unfolding byState
 outside-the-window h start n items = (
   by-image h (callHandler start n) (λ e. rw e) (λ r. SameOutside start n (h .buffer) (r .left .buffer))
       (λ nobody. record { below = refl; above = refl })
-      (λ s image. let w : Served = served s (h .buffer) in outside-if w start n (4 ∷ []) (fits w start n) false 0 refl),
+      (λ s image. let w : Served = served s (h .buffer) in outside-if w start n (4 ∷ []) (hasWindow w start n) false 0 refl),
   by-image h (runTrace start n items) (λ e. rw e) (λ r. SameOutside start n (h .buffer) (r .left .buffer))
       (λ nobody. record { below = refl; above = refl })
       (λ s image.
       let w : Served = served s (h .buffer) in
-      outside-if w start n items (fits w start n) (ltb (firstBad items) (length items)) (firstBad items) refl),
+      outside-if w start n items (hasWindow w start n) (ltb (firstBad items) (length items)) (firstBad items) refl),
 )
 
 -- ---- a refusal's number and the item beside it, by the first cause of a list that holds
@@ -168,7 +168,7 @@ module _ (most : ℕ) (items : List ℕ) where
   )
 
 fits-not :
-    (h : Host) (start n : ℕ) (s : State) → ImageOf s (h .state) → (not (fits (served s (h .buffer)) start n) ≡ true) ↔ FitsNot h start n
+    (h : Host) (start n : ℕ) (s : State) → ImageOf s (h .state) → (not (hasWindow (served s (h .buffer)) start n) ≡ true) ↔ FitsNot h start n
 fits-not h start n s image = (
   λ t.
       by-test (leb (start + n) (length (h .buffer)))
@@ -348,13 +348,13 @@ module _ (h : Host) where
       on-image (callHandler start n) (λ e. rw e)
       (λ s image.
       let w : Served = served s (h .buffer) in
-      window-looks w start n 0 (Call ∷ []) (fits w start n) false (fits-not h start n s image) none)
+      window-looks w start n 0 (Call ∷ []) (hasWindow w start n) false (fits-not h start n s image) none)
   looked (runTrace start n items) =
       on-image (runTrace start n items) (λ e. rw e)
       (λ s image.
       let w : Served = served s (h .buffer) in
       let bad : Bool = ltb (firstBad items) (length items) in
-      window-looks w start n (firstBad items) (map itemAt items) (fits w start n) bad (fits-not h start n s image) (above-looks 4 items bad refl (λ no. none)))
+      window-looks w start n (firstBad items) (map itemAt items) (hasWindow w start n) bad (fits-not h start n s image) (above-looks 4 items bad refl (λ no. none)))
 
 look-looks : (bytes : List ℕ) → FirstOf (λ item. ⊥) (lookCauses bytes) (doorLook bytes .refusal) 0
 unfolding byState
@@ -390,4 +390,4 @@ pub item-beside : ItemBeside
 item-beside = (λ h c. beside (looked h c), λ levels item. beside (found-looks levels item))
 
 pub demand-one : DemandOne
-demand-one = (one-outcome, refused-keeps, outside-the-window, exact-causes, item-beside)
+demand-one = (one-reply, refused-keeps, outside-the-window, exact-causes, item-beside)

@@ -31,7 +31,7 @@ use Rattle.door.specs.declared.Answer.{Answer}
 use Rattle.door.specs.Door.{setupIf, doorSetup}
 use Rattle.door.specs.Outcome.{byState, done}
 use Rattle.doorkept.specs.Image.{setup-leaves}
-use Rattle.demands.specs.Calls.{DoorCall, setUp, readRegister, runTrace, Host, host, Reply, reply, answers, leftAfter, atDoor, fits, inWindow, byDefinition, AllItems, Asks, a-run, a-sample, a-call, Feeds, nothing, one-more}
+use Rattle.demands.specs.Calls.{DoorCall, setUp, readRegister, runTrace, Host, host, Reply, reply, answers, leftAfter, atDoor, hasWindow, inWindow, byDefinition, AllItems, Asks, a-run, a-sample, a-call, Feeds, nothing, one-more}
 use Rattle.demands.specs.Demands.{SetupRegisters, RunIsCalls, DemandThree}
 use Rattle.demands.specs.DemandTwo.{image-is, on-state, follows, imageHost, by-image, Follows}
 
@@ -132,7 +132,7 @@ module _ (start n : ℕ) where
   unfolding afterAll
   ran-none w = ap (λ (b : List ℕ). served (w .state) b) (sym (splice-own start n (w .bytes)))
 
-  module _ (w : Served) (f : fits w start n ≡ true) where
+  module _ (w : Served) (f : hasWindow w start n ≡ true) where
     within : start + n ≤ length (w .bytes)
     within = inside (length (w .bytes)) start n (w .state .handler .n) (sym f) refl
 
@@ -143,7 +143,7 @@ module _ (start n : ℕ) where
       left-length : length (left .bytes) ≡ n
       left-length = run-length (w .state) (windowOf start n (w .bytes)) xs ∙ window-length start n (w .bytes) within
 
-      ran-fits : fits (ranOn w xs) start n ≡ true
+      ran-fits : hasWindow (ranOn w xs) start n ≡ true
       ran-fits = rw (splice-length start n (left .bytes) (w .bytes) within left-length, run-n (w .state) (windowOf start n (w .bytes)) xs) f
 
       ran-on : (ys : List ℕ) → ranOn (ranOn w xs) ys ≡ ranOn w (xs ++ ys)
@@ -156,7 +156,7 @@ module _ (start n : ℕ) where
     pub left : leftAfter byDefinition w calls ≡ ranOn w items
 
   asked :
-      {c : DoorCall} {items : List ℕ} → Asks start n c items → (w : Served) → fits w start n ≡ true → AllItems items
+      {c : DoorCall} {items : List ℕ} → Asks start n c items → (w : Served) → hasWindow w start n ≡ true → AllItems items
       → byDefinition w c ≡ reply (done 0) (ranOn w items)
   unfolding afterAll
   asked (a-run {items = items}) w f good = rw (f, none-bad items good)
@@ -164,7 +164,7 @@ module _ (start n : ℕ) where
   asked a-call w f good = rw f
 
   fed :
-      {calls : List DoorCall} {items : List ℕ} → Feeds start n calls items → (w : Served) → fits w start n ≡ true → AllItems items
+      {calls : List DoorCall} {items : List ℕ} → Feeds start n calls items → (w : Served) → hasWindow w start n ≡ true → AllItems items
       → Fed w calls items
   fed nothing w f good = record { answered = refl; left = ran-none w }
   fed (one-more {c = c} {calls = calls} {items = xs} {rest = ys} asks more) w f good =
@@ -193,7 +193,7 @@ run-is-calls start n h calls items feeds =
     (λ nobody e. absurd (omega arith))
     (λ s image e.
     let w : Served = served s (h .buffer) in
-    let k = was-run start n w (map itemAt items) (fits w start n) (ltb (firstBad items) (length items)) (firstBad items) e in
+    let k = was-run start n w (map itemAt items) (hasWindow w start n) (ltb (firstBad items) (length items)) (firstBad items) e in
     let parts = fed start n feeds w (k .0) (all-good items (k .1)) in
     let all = follows w calls (image .1) in
     let whole = asked start n a-run w (k .0) (all-good items (k .1)) in
@@ -248,7 +248,7 @@ demand-three-at-door add start n h calls items long low high inside feeds good =
     begins : atDoor h (setUp add n) ≡ reply (done 0) (imageHost begun)
     begins = setup-begins add n h long low high
 
-    fitting : fits begun start n ≡ true
+    fitting : hasWindow begun start n ≡ true
     fitting = rw (le-leb (start + n) (length (h .buffer)) inside, eq-eqb n n refl)
 
     all-fed : Fed start n begun calls items

@@ -1,5 +1,5 @@
 -- The demands, said of the functions that C calls: wherryoar_setup, read, write, sample, call and run, look and find. Statements
--- alone: their words are in Calls.antt, each is proved in the file that has its name.
+-- alone: their words are in Calls.antt, their proofs in the other files.
 use Prim.Native.Nat.{ℕ, _+_, _<_, _≤_}
 use mathlib.Core.Path.{_≡_}
 use mathlib.Core.List.{List, [], _∷_, map}

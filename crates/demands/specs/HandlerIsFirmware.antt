@@ -25,7 +25,7 @@ use Rattle.steps.specs.Step.{afterAll}
 use Rattle.image.specs.HandlerPart.{handlerValid}
 use Rattle.door.specs.declared.Answer.{Answer}
 use Rattle.door.specs.Outcome.{done}
-use Rattle.demands.specs.Calls.{callHandler, atDoor, fits, inWindow, ImageOf, shows, writing, settingCKP, firmwareIf, firmware}
+use Rattle.demands.specs.Calls.{callHandler, atDoor, hasWindow, inWindow, ImageOf, shows, afterWriting, settingCKP, firmwareIf, firmware}
 use Rattle.demands.specs.Demands.{HandlerIsFirmware}
 use Rattle.demands.specs.DemandTwo.{demand-two}
 use Rattle.demands.specs.DemandThree.{was-run}
@@ -54,7 +54,7 @@ mode-ours false ours t = refl
 con1-written :
     (m : Module) (v : ℕ) → T (modeFits (m .config))
     → Bits v (m .config .wcol) (m .live .sspov) (m .config .sspen) true (m .config .sspm3) (m .config .sspm2) (m .config .sspm1) (m .config .sspm0)
-    → writing 2 v m ≡ released m
+    → afterWriting 2 v m ≡ released m
 con1-written m v mode k =
     let c = m .config in
     rw (k .is7, k .is6, k .is5, k .is4, k .is3, k .is2, k .is1, k .is0, mode-ours (c .sspen) (modelled (c .sspm3) (c .sspm2) (c .sspm1) (c .sspm0)) mode, not-both (c .sspen), both-same (c .wcol), both-same (m .live .sspov))
@@ -62,7 +62,7 @@ con1-written m v mode k =
 ckp-set : (m : Module) → T (modeFits (m .config)) → settingCKP m ≡ released m
 ckp-set m mode =
     let c = m .config in let l = m .live in
-    ap (λ (v : ℕ). writing 2 v m) (ckp-added (c .wcol) (l .sspov) (c .sspen) (l .ckp) (c .sspm3) (c .sspm2) (c .sspm1) (c .sspm0))
+    ap (λ (v : ℕ). afterWriting 2 v m) (ckp-added (c .wcol) (l .sspov) (c .sspen) (l .ckp) (c .sspm3) (c .sspm2) (c .sspm1) (c .sspm0))
     ∙ con1-written m (byteOf (c .wcol) (l .sspov) (c .sspen) true (c .sspm3) (c .sspm2) (c .sspm1) (c .sspm0)) mode
     (bits-back (c .wcol) (l .sspov) (c .sspen) true (c .sspm3) (c .sspm2) (c .sspm1) (c .sspm0))
 
@@ -78,11 +78,11 @@ module _ (s : State) (window : List ℕ) (mode : T (modeFits (s .mssp .config)))
   abbrev cleared : Module
   cleared = acknowledged s .mssp
 
-  flag-cleared : writing 7 0 (s .mssp) ≡ cleared
+  flag-cleared : afterWriting 7 0 (s .mssp) ≡ cleared
   flag-cleared = rw and-false
 
   -- After the flag: what else is done, and then CKP.
-  then-ckp : (work : Module → Module) → T (modeFits (work cleared .config)) → settingCKP (work (writing 7 0 (s .mssp))) ≡ released (work cleared)
+  then-ckp : (work : Module → Module) → T (modeFits (work cleared .config)) → settingCKP (work (afterWriting 7 0 (s .mssp))) ≡ released (work cleared)
   then-ckp work fits = ap (λ (m : Module). settingCKP (work m)) flag-cleared ∙ ckp-set (work cleared) fits
 
   serve-is :
@@ -119,6 +119,6 @@ handler-is-firmware s h start n image e =
     let window : List ℕ = windowOf start n (h .buffer) in
     let mode : T (modeFits (s .mssp .config)) = clauses (s .mssp) (and-left (valid (s .mssp)) (handlerValid (s .handler)) (image .1)) .mode in
     let both = demand-two s h (callHandler start n ∷ []) image in
-    let f = was-run start n w (Call ∷ []) (fits w start n) false 0 (sym (ap (λ (xs : List Answer). getD xs 0 (done 0) .refusal) (both .0)) ∙ e) .0 in
+    let f = was-run start n w (Call ∷ []) (hasWindow w start n) false 0 (sym (ap (λ (xs : List Answer). getD xs 0 (done 0) .refusal) (both .0)) ∙ e) .0 in
     subst (λ (m : Module). ImageOf (stateOf m (called s window .state .handler)) (atDoor h (callHandler start n) .left .state)) (sym (firmware-is s window mode))
     (subst (λ (t : Bool). ImageOf (inWindow t false 0 w start n (Call ∷ []) .left .state) (atDoor h (callHandler start n) .left .state)) f (both .1))
