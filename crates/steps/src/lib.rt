@@ -51,12 +51,12 @@ pub fn step(s: State, window: &mut [u8], item: Item) -> Answered
             }
         }
         Item::Write(number, value) => {
-            let access = writes::write(m, number, value);
-            let left = access.mssp;
-            let verdict = access.verdict;
+            let written = writes::write(m, number, value);
+            let next = written.mssp;
+            let told = written.verdict;
             Answered {
-                verdict: verdict,
-                state: State { mssp: left, ..s },
+                verdict: told,
+                state: State { mssp: next, ..s },
             }
         }
         Item::Nothing => Answered {
