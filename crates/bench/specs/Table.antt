@@ -1,87 +1,66 @@
 -- The bench examples P1 to P12 (01, "Bench examples"), one table and one statement over the definitions that the code is
--- proved against.
--- Assumes nothing.
+-- proved against: items played by `afterAll`.
 use Prim.Native.Nat.{ℕ, zero, suc, _+_, _/_, _%_, _^_}
-use mathlib.Core.Bool.{Bool, true, false, cond, _&&_, not}
+use mathlib.Core.Bool.{Bool, true, false, _&&_, not}
 use mathlib.Core.List.{List, [], _∷_, _++_, map}
-use lib.Dec.{T, eqb, ltb}
+use lib.Dec.{T, eqb}
 use lib.ListN.{length, getD}
-use Rattle.wire.specs.Wire.{sclOf, sdaOf}
 use Rattle.mssp.specs.declared.Phase.{Phase}
 use Rattle.mssp.specs.declared.Phase.the-variants.{Quiet, Address, Data, HeldBefore, Slot, HeldForSending, Sending, MasterAcknowledge}
 use Rattle.mssp.specs.declared.Live.{Live}
 use Rattle.mssp.specs.Module.{setup}
 use Rattle.mssp.specs.Drivers.{sdaPulled}
 use Rattle.mssp.specs.Valid.{isQuiet}
-use Rattle.sampling.specs.Rules.{sampled}
-use Rattle.registers.specs.Values.{readOf}
-use Rattle.writes.specs.Writes.{writeOf}
-use Rattle.firmware.specs.Handler.{Served, served, stateOf, handlerOf, called}
-
--- What is done on the bench: a sample, a handler call, a register read or written.
-pub data Act : Type 0 where
-  sample : ℕ → Act
-  call : Act
-  read : ℕ → Act
-  write : ℕ → ℕ → Act
-
-abbrev pub acted : Served → Act → Served
-acted w (sample level) = served (stateOf (sampled (w .state .mssp) (sclOf level) (sdaOf level)) (w .state .handler)) (w .bytes)
-acted w call = called (w .state) (w .bytes)
-acted w (read r) = served (stateOf (readOf (w .state .mssp) r .mssp) (w .state .handler)) (w .bytes)
-acted w (write r v) = served (stateOf (writeOf (w .state .mssp) r v .mssp) (w .state .handler)) (w .bytes)
-
-abbrev pub after : Served → List Act → Served
-after w [] = w
-after w (act ∷ acts) = after (acted w act) acts
+use Rattle.firmware.specs.Handler.{Served, served, stateOf, handlerOf}
+use Rattle.steps.specs.declared.Item.{Item}
+use Rattle.steps.specs.declared.Item.the-variants.{Call, Read, Write}
+use Rattle.steps.specs.Step.{afterAll}
+use Rattle.trace.specs.Run.{itemAt}
 
 -- A trace as the paper writes it: 0 to 3 samples, 4 a handler call.
-abbrev pub item : ℕ → Act
-item k = cond (ltb k 4) (sample k) call
-
-abbrev pub trace : List ℕ → List Act
-trace items = map item items
+abbrev pub trace : List ℕ → List Item
+trace bytes = map itemAt bytes
 
 -- Start; the eight clocks of a byte, whose last fall is the next low; the acknowledge clock up to its fall.
-abbrev pub begin : List Act
+abbrev pub begin : List Item
 begin = trace (3 ∷ 2 ∷ [])
 
 abbrev pub clocks : ℕ → ℕ → List ℕ
 clocks zero v = []
 clocks (suc k) v = (v / 2 ^ k % 2) ∷ (2 + v / 2 ^ k % 2) ∷ clocks k v
 
-abbrev pub byte : ℕ → List Act
+abbrev pub byte : ℕ → List Item
 byte v = trace (clocks 8 v ++ (1 ∷ []))
 
-abbrev pub ninth : ℕ → List Act
+abbrev pub ninth : ℕ → List Item
 ninth sda = trace ((2 + sda) ∷ 1 ∷ [])
 
 -- A byte that the module acknowledges, and the handler's call; a byte that it sends, with the master's answer, and a call.
-abbrev pub given : ℕ → List Act
-given v = byte v ++ (ninth 1 ++ (call ∷ []))
+abbrev pub given : ℕ → List Item
+given v = byte v ++ (ninth 1 ++ (Call ∷ []))
 
-abbrev pub taken : ℕ → List Act
-taken answer = byte 0xFF ++ (ninth answer ++ (call ∷ []))
+abbrev pub taken : ℕ → List Item
+taken answer = byte 0xFF ++ (ninth answer ++ (Call ∷ []))
 
-abbrev pub restart : List Act
+abbrev pub restart : List Item
 restart = trace (1 ∷ 3 ∷ 2 ∷ [])
 
 -- The first byte of a message, up to its eighth fall.
-abbrev pub opening : ℕ → List Act
+abbrev pub opening : ℕ → List Item
 opening v = begin ++ byte v
 
 -- P5: the report's worked example.
-abbrev pub worked : List Act
+abbrev pub worked : List Item
 worked =
     trace
     (3 ∷ 2 ∷ 0 ∷ 2 ∷ 0 ∷ 2 ∷ 1 ∷ 3 ∷ 1 ∷ 3 ∷ 0 ∷ 2 ∷ 0 ∷ 2 ∷ 0 ∷ 2 ∷ 0 ∷ 2 ∷ 1 ∷ 3 ∷ 1 ∷ 4 ∷ 0 ∷ 2 ∷ 3 ∷ [])
 
 -- P8: the address byte is not read away, the clock is let go by a write to CON1, a data byte comes.
-abbrev pub overflow : List Act
-overflow = opening 0x30 ++ (ninth 1 ++ (write 2 0x36 ∷ byte 0xAA))
+abbrev pub overflow : List Item
+overflow = opening 0x30 ++ (ninth 1 ++ (Write 2 0x36 ∷ byte 0xAA))
 
 -- P12: the pointer set to 30, then a read; the byte is on from the end of the hold.
-abbrev pub reading : List Act
+abbrev pub reading : List Item
 reading = begin ++ (given 0x30 ++ (given 30 ++ (restart ++ given 0x31)))
 
 -- 32 bytes that differ: place k holds 100 + k.
@@ -124,14 +103,22 @@ outgoing v MasterAcknowledge = false
 abbrev pub sends : ℕ → Served → Bool
 sends v w = outgoing v (w .state .mssp .phase)
 
--- ---- the table: memory, what is done after a setup with ADD 30, what must then hold
+-- A test that holds of every byte, 0 to 255.
+abbrev pub below : ℕ → (ℕ → Bool) → Bool
+below zero test = true
+below (suc k) test = test k && below k test
+
+abbrev pub everyByte : (ℕ → Bool) → Bool
+everyByte test = below 256 test
+
+-- ---- the table: memory, the items after a setup with ADD 30, what must then hold
 pub record Case : Type 0 where
   pub bytes : List ℕ
-  pub acts : List Act
+  pub items : List Item
   pub test : Served → Bool
 
-abbrev pub case : List ℕ → List Act → (Served → Bool) → Case
-case bytes acts test = record { bytes = bytes; acts = acts; test = test }
+abbrev pub case : List ℕ → List Item → (Served → Bool) → Case
+case bytes items test = record { bytes = bytes; items = items; test = test }
 
 abbrev pub table : List Case
 table =
@@ -143,20 +130,20 @@ table =
     -- P5
     ∷ case memory32 worked (λ w. pointer 0 w && flag (λ l. l .p) w && not (flag (λ l. l .bf) w))
     -- P6: MSK F0
-    ∷ case memory32 (write 6 0xF0 ∷ opening 0x3E) (λ w. pulls w)
-    ∷ case memory32 (write 6 0xF0 ∷ opening 0x40) (λ w. quiet w)
+    ∷ case memory32 (Write 6 0xF0 ∷ opening 0x3E) (λ w. pulls w)
+    ∷ case memory32 (Write 6 0xF0 ∷ opening 0x40) (λ w. quiet w)
     -- P7: GCEN 1
-    ∷ case memory32 (write 3 0x81 ∷ opening 0x00) (λ w. pulls w)
-    ∷ case memory32 (write 3 0x81 ∷ opening 0x01) (λ w. quiet w)
+    ∷ case memory32 (Write 3 0x81 ∷ opening 0x00) (λ w. pulls w)
+    ∷ case memory32 (Write 3 0x81 ∷ opening 0x01) (λ w. quiet w)
     -- P8: BF 1 at a data byte; P9: BF read away, SSPOV still 1
     ∷ case memory32 overflow (λ w. flag (λ l. l .sspov) w && buf 0x30 w && not (pulls w))
-    ∷ case memory32 (overflow ++ (read 0 ∷ (restart ++ byte 0x31))) (λ w. flag (λ l. l .sspov) w && buf 0x31 w && flag (λ l. l .bf) w && not (pulls w))
+    ∷ case memory32 (overflow ++ (Read 0 ∷ (restart ++ byte 0x31))) (λ w. flag (λ l. l .sspov) w && buf 0x31 w && flag (λ l. l .bf) w && not (pulls w))
     -- P10
     ∷ case memory32 (begin ++ (given 0x30 ++ (given 0x1F ++ (given 0xAA ++ given 0xBB)))) (λ w. holds 31 0xAA w && holds 0 0xBB w && pointer 1 w)
-    -- P11
+    -- P11: modulo n; with n 1 always 0, whichever byte comes
     ∷ case memory32 (begin ++ (given 0x30 ++ given 0xFF)) (λ w. pointer 31 w)
     ∷ case memory32 (begin ++ (given 0x30 ++ given 0x20)) (λ w. pointer 0 w)
-    ∷ case (7 ∷ []) (begin ++ (given 0x30 ++ given 0xFF)) (λ w. pointer 0 w)
+    ∷ case (7 ∷ []) (begin ++ given 0x30) (λ w. everyByte (λ v. let x : Served = afterAll w (given v) in buf v x && pointer 0 x))
     -- P12: places 30, 31, 0; ACK, ACK, NACK
     ∷ case memory32 reading (λ w. sends 130 w)
     ∷ case memory32 (reading ++ taken 0) (λ w. sends 131 w)
@@ -165,7 +152,7 @@ table =
     ∷ []
 
 abbrev pub runCase : Case → Bool
-runCase c = c .test (after (served (stateOf (setup 0x30) (handlerOf (length (c .bytes)) 0 false)) (c .bytes)) (c .acts))
+runCase c = c .test (afterAll (served (stateOf (setup 0x30) (handlerOf (length (c .bytes)) 0 false)) (c .bytes)) (c .items))
 
 abbrev pub passes : List Case → Bool
 passes [] = true
@@ -173,4 +160,5 @@ passes (c ∷ cs) = runCase c && passes cs
 
 -- THE BENCH: every row holds.
 pub bench : T (passes table)
+unfolding afterAll
 bench = tt

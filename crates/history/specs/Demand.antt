@@ -1,38 +1,46 @@
--- Demand 2 over a whole history: after each item the state is the definitions' fold over the items up to it, and it is a
--- state. `history::after` is proved to give that fold, for every list of items, every count and every state.
--- Assumes nothing.
-use Prim.Native.Nat.{ℕ, suc, _<_}
+-- Demand 2 over a whole history: after each item state and window are the definitions' fold over the items up to it, and the
+-- state is a state. `history::after` is proved to give that fold, for every list of items, every count and every state.
+use Prim.Native.Nat.{ℕ, suc, _<_, _/_}
 use mathlib.Core.Path.{_≡_, refl}
 use mathlib.Core.List.{List, [], _∷_, _++_}
+use native.Mathlib.Omega.{arith}
 use lib.ListN.{length, take, getD}
 use lib.Seq.{take-suc}
-use Rattle.mssp.specs.declared.Module.{Module}
-use Rattle.mssp.specs.Valid.{Valid}
 use Rattle.kept.specs.Kept.{sample-kept, access-read-kept, access-write-kept}
-use Rattle.history.specs.declared.Item.{Item}
-use Rattle.history.specs.declared.Item.the-variants.{Sample, Read, Write, Nothing}
-use Rattle.history.specs.History.{itemOf, done, historyOf}
+use Rattle.firmware.specs.Handler.{Served}
+use Rattle.steps.specs.declared.Item.{Item}
+use Rattle.steps.specs.declared.Item.the-variants.{Sample, Call, Read, Write, Nothing}
+use Rattle.steps.specs.Step.{after, afterAll}
+use Rattle.trace.specs.Run.{itemAt}
+use Rattle.runkept.specs.Kept.{ValidState, called-kept}
+use Rattle.history.specs.History.{itemOf, historyOf}
 
-pub joined : (m : Module) (xs ys : List ℕ) → historyOf m (xs ++ ys) ≡ historyOf (historyOf m xs) ys
-unfolding historyOf
-joined m [] ys = refl
-joined m (x ∷ xs) ys = joined (done m (itemOf x)) xs ys
+pub joined : (w : Served) (xs ys : List ℕ) → historyOf w (xs ++ ys) ≡ historyOf (historyOf w xs) ys
+unfolding afterAll
+joined w [] ys = refl
+joined w (x ∷ xs) ys = joined (after w (itemOf x)) xs ys
 
--- The state after item k is what the definitions make of the state before it: no item is passed over, at any place.
+-- What the history leaves after item k is that item's step on what it left before: no item is passed over, at any place.
 pub after-each :
-    (m : Module) (items : List ℕ) (k : ℕ) → k < length items
-    → historyOf m (take (suc k) items) ≡ done (historyOf m (take k items)) (itemOf (getD items k 0))
-unfolding historyOf
-after-each m items k h = rw (take-suc items k 0) (joined m (take k items) (getD items k 0 ∷ []))
+    (w : Served) (items : List ℕ) (k : ℕ) → k < length items
+    → historyOf w (take (suc k) items) ≡ after (historyOf w (take k items)) (itemOf (getD items k 0))
+unfolding afterAll
+after-each w items k h = rw (take-suc items k 0) (joined w (take k items) (getD items k 0 ∷ []))
 
-done-kept : (m : Module) (item : Item) → Valid m → Valid (done m item)
-done-kept m (Sample scl sda) v = sample-kept m scl sda v
-done-kept m (Read number) v = access-read-kept m number v
-done-kept m (Write number value) v = access-write-kept m number value v
-done-kept m Nothing v = v
+-- A trace is a history: a byte is the same item in both.
+pub byte-item : (byte : ℕ) → byte < 65536 → itemOf byte ≡ itemAt byte
+byte-item byte h = let e : byte / 65536 ≡ 0 = omega arith in rw e
+
+item-kept : (w : Served) (item : Item) → ValidState (w .state) → ValidState (after w item .state)
+item-kept w (Sample scl sda) v = record { mssp = sample-kept (w .state .mssp) scl sda (v .mssp); handler = v .handler }
+item-kept w Call v = called-kept (w .state) (w .bytes) v
+item-kept w (Read number) v = record { mssp = access-read-kept (w .state .mssp) number (v .mssp); handler = v .handler }
+item-kept w (Write number value) v =
+    record { mssp = access-write-kept (w .state .mssp) number value (v .mssp); handler = v .handler }
+item-kept w Nothing v = v
 
 -- After every history a state is a state.
-pub history-kept : (m : Module) (items : List ℕ) → Valid m → Valid (historyOf m items)
-unfolding historyOf
-history-kept m [] v = v
-history-kept m (x ∷ xs) v = history-kept (done m (itemOf x)) xs (done-kept m (itemOf x) v)
+pub history-kept : (w : Served) (items : List ℕ) → ValidState (w .state) → ValidState (historyOf w items .state)
+unfolding afterAll
+history-kept w [] v = v
+history-kept w (x ∷ xs) v = history-kept (after w (itemOf x)) xs (item-kept w (itemOf x) v)

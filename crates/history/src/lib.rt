@@ -1,75 +1,52 @@
-// A history: samples and register accesses one after the other, and the module after the first so many of them.
+// A history: samples, handler calls and register accesses as numbers, one after the other over a state and its window, and
+// what the first so many of them leave.
 ghost use mathlib.Core.Path.{_≡_};
 ghost use lib.ListN.{take};
-ghost use Rattle.history.specs.History.{itemOf, done, historyOf};
-use mssp::Module;
+ghost use Rattle.firmware.specs.Handler.{served};
+ghost use Rattle.history.specs.History.{itemOf, historyOf};
+use firmware::State;
+use steps::Item;
 
-pub enum Item {
-    // SCL, SDA
-    Sample(bool, bool),
-    // register number
-    Read(u32),
-    // register number, value
-    Write(u32, u8),
-    Nothing,
-}
-
-// An item as a number: 0 to 3 a sample, 10000 + 100 × R a read, 20000 + 100 × R + V a write (hex); any other is none.
+// An item as a number: 0 to 3 a sample, 4 a handler call, 10000 + 100 × R a read, 20000 + 100 × R + V a write (hex); any other
+// is none.
 fn item_of(code: u32) -> Item
     ensures { λ r. ⌜ r ≡ itemOf code ⌝ }
 {
-    let number = code / 256 % 256;
-    let value = (code % 256) as u8;
-    if code < 4 {
-        Item::Sample(value / 2 % 2 == 1, value / 1 % 2 == 1)
-    } else if code / 65536 == 1 {
-        Item::Read(number)
+    if code / 65536 == 1 {
+        Item::Read(code / 256 % 256)
     } else if code / 65536 == 2 {
-        Item::Write(number, value)
+        Item::Write(code / 256 % 256, (code % 256) as u8)
+    } else if code < 4 {
+        Item::Sample(code / 2 % 2 == 1, code / 1 % 2 == 1)
+    } else if code == 4 {
+        Item::Call
     } else {
         Item::Nothing
     }
 }
 
-// One item. A refused access changes nothing.
-fn apply(m: Module, item: Item) -> Module
-    ensures { λ r. ⌜ r ≡ done m item ⌝ }
+// State and window after all the items.
+pub fn run(s: State, window: &mut [u8], items: &[u32]) -> State
+    ensures { λ r. ⌜ served r (now (window .exit)) ≡ historyOf (served s (now (window .entry))) (now (items .entry)) ⌝ }
 {
-    match item {
-        Item::Sample(scl, sda) => sampling::sample(m, scl, sda),
-        Item::Read(number) => {
-            let answer = registers::read(m, number);
-            answer.mssp
-        }
-        Item::Write(number, value) => {
-            let answer = writes::write(m, number, value);
-            answer.mssp
-        }
-        Item::Nothing => m,
-    }
-}
-
-// The module after all the items.
-pub fn run(m: Module, items: &[u32]) -> Module
-    ensures { λ r. ⌜ r ≡ historyOf m (now (items .entry)) ⌝ }
-{
-    let mut n = m;
+    let mut t = s;
     let mut i = 0;
     while i < items.len() {
         let code = items[i];
-        n = apply(n, item_of(code));
+        let answered = steps::step(t, window, item_of(code));
+        t = answered.state;
         i += 1;
     }
-    n
+    t
 }
 
-// The module after the first `count` items, all of them where there are fewer.
-pub fn after(m: Module, items: &[u32], count: usize) -> Module
-    ensures { λ r. ⌜ r ≡ historyOf m (take count (now (items .entry))) ⌝ }
+// State and window after the first `count` items, all of them where there are fewer.
+pub fn after(s: State, window: &mut [u8], items: &[u32], count: usize) -> State
+    ensures { λ r. ⌜ served r (now (window .exit)) ≡ historyOf (served s (now (window .entry))) (take count (now (items .entry))) ⌝ }
 {
     if count < items.len() {
-        run(m, &items[..count])
+        run(s, window, &items[..count])
     } else {
-        run(m, items)
+        run(s, window, items)
     }
 }

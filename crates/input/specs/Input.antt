@@ -1,5 +1,4 @@
 -- The report's input (01, "Report program"): what each byte is, and the items that the bytes give.
--- Assumes nothing.
 use Prim.Native.Nat.{ℕ, suc, _-_}
 use Prim.Native.Char.{code}
 use mathlib.Core.Bool.{Bool, true, false, cond, _||_}
@@ -7,8 +6,8 @@ use mathlib.Core.List.{List, [], _∷_}
 use lib.Dec.{eqb, ltb}
 use lib.ListN.{length}
 use Rattle.wire.specs.Wire.{sclOf, sdaOf}
-use Rattle.input.specs.declared.Item.{Item}
-use Rattle.input.specs.declared.Item.the-variants.{Sample, Call}
+use Rattle.steps.specs.declared.Item.{Item}
+use Rattle.steps.specs.declared.Item.the-variants.{Sample, Call}
 use Rattle.input.specs.declared.Meaning.{Meaning}
 use Rattle.input.specs.declared.Meaning.the-variants.{Skipped, Taken, Foreign}
 use Rattle.input.specs.declared.Checked.{Checked}

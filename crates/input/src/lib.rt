@@ -1,12 +1,7 @@
 // The report's input: what each byte of it is, and how many items it has.
 ghost use mathlib.Core.Path.{_≡_};
 ghost use Rattle.input.specs.Input.{meaningOf, isForeign, itemCount, checkedOf};
-
-// What everybody else drives, SCL and SDA; or a handler call.
-pub enum Item {
-    Sample(bool, bool),
-    Call,
-}
+use steps::Item;
 
 // What a byte of the input is: passed over, an item, or neither.
 pub enum Meaning {

@@ -11,7 +11,7 @@ use Rattle.firmware.specs.declared.Made.{Made}
 use Rattle.firmware.specs.declared.Made.the-variants.{Ready}
 use Rattle.firmware.specs.Handler.{setupOf}
 use Rattle.reader.specs.Reader.{readerAfresh}
-use Rattle.input.specs.declared.Item.{Item}
+use Rattle.steps.specs.declared.Item.{Item}
 use Rattle.input.specs.declared.Meaning.{Meaning}
 use Rattle.input.specs.declared.Meaning.the-variants.{Skipped, Taken, Foreign}
 use Rattle.input.specs.declared.Checked.the-variants.{Whole, Cut}

@@ -7,7 +7,7 @@ use lib.Dec.{ltb}
 use lib.ListN.{length}
 use Rattle.refusals.specs.declared.Refusal.the-variants.{NoItem}
 use Rattle.refusals.specs.Numbers.{numberOf}
-use Rattle.input.specs.declared.Item.{Item}
+use Rattle.steps.specs.declared.Item.{Item}
 use Rattle.input.specs.declared.Meaning.{Meaning}
 use Rattle.input.specs.declared.Meaning.the-variants.{Skipped, Taken, Foreign}
 use Rattle.input.specs.Input.{Parsed, all, foreign, parse}

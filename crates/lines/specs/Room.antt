@@ -29,8 +29,9 @@ use Rattle.reader.specs.declared.Heard.{Heard}
 use Rattle.reader.specs.declared.Heard.the-variants.{Silence, Started, Stopped, Byte}
 use Rattle.reader.specs.declared.Reader.{Reader}
 use Rattle.reader.specs.Reader.{withinFall, fallPlace, risePlace, fallHeard, heardAt, readerOf, readerAfter}
-use Rattle.input.specs.declared.Item.{Item}
-use Rattle.input.specs.declared.Item.the-variants.{Sample, Call}
+use Rattle.steps.specs.declared.Item.{Item}
+use Rattle.steps.specs.declared.Item.the-variants.{Sample, Call, Read, Write}
+use Rattle.steps.specs.declared.Item.the-variants.{Nothing as NotAnItem}
 use Rattle.input.specs.Laws.{found, found-short}
 use Rattle.input.specs.Input.{Parsed, all, foreign, parse}
 use Rattle.watch.specs.declared.World.{World}
@@ -67,6 +68,9 @@ small-after : (w : World) (memory : List ℕ) (x : Item) → Small (w .state .ha
     → Small (sceneAfter w memory x .watched .world .state .handler)
 small-after w memory (Sample scl sda) k = k
 small-after w memory Call k = small-called (w .state .mssp .live .sspif) (w .state .mssp .live .ckp) (w .state) memory k
+small-after w memory (Read number) k = k
+small-after w memory (Write number value) k = k
+small-after w memory NotAnItem k = k
 
 -- ---- two items for each event
 -- What the wire is good for at once, in items: two for each event that can come without further clocks. A Start can follow
@@ -149,6 +153,9 @@ paid-item w memory (Sample scl sda) m =
     let k = spent m (onWire (sclPulled (w .state .mssp .phase)) scl) (onWire (sdaPulled (w .state .mssp .phase)) sda) in
     (k .marks, k .paid)
 paid-item w memory Call m = (m, omega arith)
+paid-item w memory (Read number) m = (m, omega arith)
+paid-item w memory (Write number value) m = (m, omega arith)
+paid-item w memory NotAnItem m = (m, omega arith)
 
 lines-room :
     (w : World) (memory : List ℕ) (item : ℕ) (items : List Item) → Small (w .state .handler) → Marks (w .reader)

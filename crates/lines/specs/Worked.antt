@@ -4,8 +4,8 @@ use Prim.Native.Nat.{ℕ}
 use mathlib.Core.Path.{_≡_, refl}
 use mathlib.Core.List.{List, []}
 use Rattle.reader.specs.declared.Heard.the-variants.{Silence}
-use Rattle.input.specs.declared.Item.{Item}
-use Rattle.input.specs.declared.Item.the-variants.{Sample, Call}
+use Rattle.steps.specs.declared.Item.{Item}
+use Rattle.steps.specs.declared.Item.the-variants.{Sample, Call, Read, Write, Nothing}
 use Rattle.input.specs.Input.{parse}
 use Rattle.watch.specs.declared.World.{World}
 use Rattle.watch.specs.Watch.{sceneAfter}
@@ -28,3 +28,6 @@ pub pointer-at-event :
     → sceneAfter w memory x .watched .world .state .handler .pointer ≡ w .state .handler .pointer
 pointer-at-event w memory (Sample scl sda) h = refl
 pointer-at-event w memory Call h = absurd (h refl)
+pointer-at-event w memory (Read number) h = refl
+pointer-at-event w memory (Write number value) h = refl
+pointer-at-event w memory Nothing h = refl

@@ -11,10 +11,10 @@ ghost use Rattle.lines.specs.Report.{progress, itemPassed, bytePassed, l
 use firmware::Made;
 use firmware::State;
 use input::Checked;
-use input::Item;
 use input::Meaning;
 use reader::Place;
 use reader::Reader;
+use steps::Item;
 use watch::World;
 use wire::Line;
 use wire::Remembered;

@@ -1,6 +1,5 @@
 -- The wire is watched while the items are played (01, "Report program"): module and handler over their memory, and the
 -- plain reader fed with the wire.
--- Assumes nothing.
 use Prim.Native.Nat.{ℕ}
 use mathlib.Core.Bool.{Bool, false}
 use mathlib.Core.List.{List}
@@ -8,16 +7,17 @@ use lib.ListN.{replicate}
 use Rattle.wire.specs.Wire.{onWire, edgeOf}
 use Rattle.mssp.specs.Module.{setup}
 use Rattle.mssp.specs.Drivers.{sclPulled, sdaPulled}
-use Rattle.sampling.specs.Rules.{sampled}
 use Rattle.firmware.specs.declared.State.{State}
-use Rattle.firmware.specs.Handler.{Served, stateOf, handlerOf, called}
+use Rattle.firmware.specs.Handler.{Served, served, stateOf, handlerOf}
 use Rattle.reader.specs.declared.Reader.{Reader}
 use Rattle.reader.specs.declared.Heard.{Heard}
 use Rattle.reader.specs.declared.Heard.the-variants.{Silence}
 use Rattle.reader.specs.Reader.{heardAt, readerAfter, readerAfresh}
-use Rattle.input.specs.declared.Item.{Item}
-use Rattle.input.specs.declared.Item.the-variants.{Sample, Call}
+use Rattle.steps.specs.declared.Item.{Item}
+use Rattle.steps.specs.declared.Item.the-variants.{Sample, Call, Read, Write, Nothing}
+use Rattle.steps.specs.Step.{after}
 use Rattle.watch.specs.declared.World.{World}
+use Rattle.watch.specs.declared.Listened.{Listened}
 use Rattle.watch.specs.declared.Watched.{Watched}
 
 abbrev pub worldOf : State → Reader → World
@@ -34,24 +34,31 @@ pub record Scene : Type 0 where
 abbrev pub scene : Watched → List ℕ → Scene
 scene w memory = record { watched = w; memory = memory }
 
+abbrev pub listenedOf : Reader → Heard → Listened
+listenedOf reader heard = record { reader = reader; heard = heard }
+
 -- The wire is the sample lowered by what the module pulls; an event belongs to the level that made its edge.
-abbrev pub levelSeen : World → Bool → Bool → Watched
+abbrev pub levelSeen : World → Bool → Bool → Listened
 levelSeen w scl sda =
-    watchedOf
-    (worldOf (stateOf (sampled (w .state .mssp) scl sda) (w .state .handler))
-    (readerAfter (w .reader) (onWire (sclPulled (w .state .mssp .phase)) scl) (onWire (sdaPulled (w .state .mssp .phase)) sda)))
+    listenedOf
+    (readerAfter (w .reader) (onWire (sclPulled (w .state .mssp .phase)) scl) (onWire (sdaPulled (w .state .mssp .phase)) sda))
     (heardAt (w .reader .place)
     (edgeOf (w .reader .line) (onWire (sclPulled (w .state .mssp .phase)) scl) (onWire (sdaPulled (w .state .mssp .phase)) sda)))
 
--- The reader sees nothing of a handler call.
-abbrev pub callSeen : World → List ℕ → Scene
-callSeen w memory =
-    let done : Served = called (w .state) memory in
-    scene (watchedOf (worldOf (done .state) (w .reader)) Silence) (done .bytes)
+-- What the reader makes of an item: only a sample is on the wire, of any other it sees nothing.
+abbrev pub itemSeen : World → Item → Listened
+itemSeen w (Sample scl sda) = levelSeen w scl sda
+itemSeen w Call = listenedOf (w .reader) Silence
+itemSeen w (Read number) = listenedOf (w .reader) Silence
+itemSeen w (Write number value) = listenedOf (w .reader) Silence
+itemSeen w Nothing = listenedOf (w .reader) Silence
+
+-- State and memory are those after the item's step; beside them the reader and what it heard.
+abbrev pub sceneOf : Served → Listened → Scene
+sceneOf left seen = scene (watchedOf (worldOf (left .state) (seen .reader)) (seen .heard)) (left .bytes)
 
 abbrev pub sceneAfter : World → List ℕ → Item → Scene
-sceneAfter w memory (Sample scl sda) = scene (levelSeen w scl sda) memory
-sceneAfter w memory Call = callSeen w memory
+sceneAfter w memory item = sceneOf (after (served (w .state) memory) item) (itemSeen w item)
 
 -- ADD is 30 (hex), the memory 32 zero bytes; no level has been seen.
 abbrev pub memoryAfresh : List ℕ

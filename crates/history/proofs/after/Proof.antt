@@ -1,5 +1,4 @@
 -- `history::after` meets its contract.
--- Assumes nothing.
 use borrow.Author.Needs.{needs}
 use mathlib.Core.Path.{sym}
 use native.Mathlib.Omega.{arith}
@@ -15,8 +14,12 @@ pub after-spec : {M : Type 1} → statement M
 after-spec =
     tie.close
     (tie.spec
-    (λ c. sym (length-take-le (c .before .before .before .args .count) (c .before .before .before .args .items .now) (omega arith)))
+    (λ c. let a = c .before .before .before .before .before .args in sym (length-take-le (a .count) (a .items .now) (omega arith)))
     (λ c κs. search needs)
     (λ c κs. search needs)
+    (λ c. search needs)
     first-so-many
-    (λ c. rw (take-all (c .before .before .before .args .count) (c .before .before .before .args .items .now) (c .before .if1 .left)) (c .run2 .ensures)))
+    (λ c. search needs)
+    (λ c. let e = c .before .before .before .before in
+    let a = e .before .before .before .args in
+    rw (take-all (a .count) (a .items .now) (e .if1 .left)) (c .before .before .run2 .ensures)))

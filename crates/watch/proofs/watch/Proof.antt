@@ -1,20 +1,21 @@
 -- `watch::watch` meets its contract.
--- Assumes nothing.
 use borrow.Author.Needs.{needs}
+use Rattle.watch.specs.Laws.{item-watched}
 use Rattle.watch.proofs.watch.Statement.{statement}
 use Rattle.watch.proofs.watch.Tie as tie
 
-sample-watched : tie.Need-returns
-sample-watched c = simp (c .before .before .item .given .1, c .watch-sample .ensures)
+state-after-the-item : tie.Need-returns
+state-after-the-item c =
+    let s = c .before .before .before in
+    let r = s .before .before .before in
+    let a = r .before .before .before .args in
+    item-watched (a .world) (a .memory .now) (a .item) (r .see-item .ensures) (s .step .ensures)
 
 pub watch-spec : {M : Type 1} → statement M
 watch-spec =
     tie.close
     (tie.spec
-    (λ c. search needs)
+    (λ c κs. search needs)
     (λ c κs. search needs)
     (λ c. search needs)
-    (λ c κs. search needs)
-    sample-watched
-    (λ c. search needs)
-    (λ c. simp (c .before .before .before .before .enum-told .given .1) (c .before .before .watch-call .ensures)))
+    state-after-the-item)
