@@ -29,37 +29,37 @@ use Rattle.image.specs.Image.{imageLength, validState, encodeOf}
 use Rattle.view.specs.View.{viewOf, noView}
 use Rattle.door.specs.declared.Answer.{Answer}
 use Rattle.door.specs.Door.{setupIf, doorSetup}
-use Rattle.door.specs.Outcome.{byState, done}
-use Rattle.doorkept.specs.Image.{setup-leaves}
+use Rattle.door.specs.Outcome.{Outcome, outcome, byState, done}
+use Rattle.doorkept.specs.Image.{Image, setup-leaves}
 use Rattle.demands.specs.Calls.{DoorCall, setUp, readRegister, runTrace, Host, host, Reply, reply, answers, leftAfter, atDoor, hasWindow, inWindow, byDefinition, AllItems, Asks, a-run, a-sample, a-call, Feeds, nothing, one-more}
 use Rattle.demands.specs.Demands.{SetupRegisters, RunIsCalls, DemandThree}
 use Rattle.demands.specs.DemandTwo.{image-is, on-state, follows, imageHost, by-image, Follows}
 
 -- ---- setup
 -- The state that an accepted setup makes.
-abbrev pub madeFor : ℕ → ℕ → State
+abbrev madeFor : ℕ → ℕ → State
 madeFor add n = stateOf (setup add) (handlerOf n 0 false)
 
 module _ (bytes : List ℕ) (add n : ℕ) where
   made-if :
-      (long bad : Bool) → setupIf long (cond bad (Refused NoWindow) (Ready (madeFor add n))) bytes .answer .refusal ≡ 0
-      → setupIf long (cond bad (Refused NoWindow) (Ready (madeFor add n))) bytes .state ≡ encodeOf (madeFor add n)
+      (long bad : Bool) → let o : Outcome = setupIf long (cond bad (Refused NoWindow) (Ready (madeFor add n))) bytes in
+      o .answer .refusal ≡ 0 → o ≡ outcome (done 0) (encodeOf (madeFor add n))
   made-if false bad e = absurd (omega arith)
   made-if true true e = absurd (omega arith)
   made-if true false e = refl
 
   module _ (e : doorSetup bytes add n .answer .refusal ≡ 0) where
-    pub setup-made : doorSetup bytes add n .state ≡ encodeOf (madeFor add n)
+    setup-made : doorSetup bytes add n ≡ outcome (done 0) (encodeOf (madeFor add n))
     setup-made = made-if (eqb (length bytes) imageLength) (eqb n 0 || ltb 256 n) e
 
-    pub setup-valid : T (validState (madeFor add n))
-    setup-valid = image-is (madeFor add n) (rw setup-made at (setup-leaves bytes add n e))
+    setup-valid : T (validState (madeFor add n))
+    setup-valid = image-is (madeFor add n) (subst (λ (o : Outcome). Image (o .state)) setup-made (setup-leaves bytes add n e))
 
 pub setup-registers : SetupRegisters
 setup-registers h add n e =
     let w : Served = served (madeFor add n) (h .buffer) in
     let valid : T (validState (w .state)) = setup-valid (h .state) add n e in
-    rw (setup-made (h .state) add n e) (
+    rw (ap (λ (o : Outcome). o .state) (setup-made (h .state) add n e)) (
       on-state noView viewOf (w .state) valid,
       follows w (map readRegister (0 ∷ 1 ∷ 2 ∷ 3 ∷ 4 ∷ 5 ∷ 6 ∷ 7 ∷ [])) valid .answered,
     )
@@ -219,13 +219,6 @@ samples-and-calls (x ∷ xs) good =
     at-most-four k h =
         by-test (ltb k 4) (λ t. rw t) (λ t. let l = ltb-false k 4 t in rw (t, eq-eqb k 4 (omega arith)))
 
--- A setup with a length of 1 to 256 is accepted, and makes the state that the joint run begins with.
-setup-begins :
-    (add n : ℕ) (h : Host) → length (h .state) ≡ imageLength → 1 ≤ n → n ≤ 256
-    → atDoor h (setUp add n) ≡ reply (done 0) (imageHost (served (madeFor add n) (h .buffer)))
-setup-begins add n h long low high =
-    rw (eq-eqb (length (h .state)) imageLength long, ne-eqb n 0 (λ e. omega arith), le-ltb 256 n high)
-
 pub demand-three-at-door : DemandThree
 demand-three-at-door add start n h calls items long low high inside feeds good = (
   ap (λ (r : Reply Host). r .answer ∷ answers atDoor (r .left) calls) begins
@@ -245,8 +238,11 @@ demand-three-at-door add start n h calls items long low high inside feeds good =
     begun : Served
     begun = served (madeFor add n) (h .buffer)
 
+    accepted : doorSetup (h .state) add n .answer .refusal ≡ 0
+    accepted = rw (eq-eqb (length (h .state)) imageLength long, ne-eqb n 0 (λ e. omega arith), le-ltb 256 n high)
+
     begins : atDoor h (setUp add n) ≡ reply (done 0) (imageHost begun)
-    begins = setup-begins add n h long low high
+    begins = ap (λ (o : Outcome). reply (o .answer) (host (o .state) (h .buffer))) (setup-made (h .state) add n accepted)
 
     fitting : hasWindow begun start n ≡ true
     fitting = rw (le-leb (start + n) (length (h .buffer)) inside, eq-eqb n n refl)
@@ -255,7 +251,7 @@ demand-three-at-door add start n h calls items long low high inside feeds good =
     all-fed = fed start n feeds begun fitting good
 
     all-follow : Follows begun calls
-    all-follow = follows begun calls (setup-valid (h .state) add n (ap (λ (r : Reply Host). r .answer .refusal) begins))
+    all-follow = follows begun calls (setup-valid (h .state) add n accepted)
 
     joint : Joint
     joint = run n add (afresh add window) (map itemAt items)
