@@ -125,7 +125,7 @@ count_sigrok() {
         echo "sigrok did not read the bytes of the first record, or was not counted."
         return 1
     fi
-    at_each count_reading "$first" >"$out/sigrok_counts" || return 1
+    at_each count_reading "$first" >"$out/sigrok_now" && mv "$out/sigrok_now" "$out/sigrok_counts" || return 1
     echo "sigrok takes$(awk '{ printf " %d", $4 }' "$out/sigrok_counts") instructions an item at $densities samples per clock"
 }
 
