@@ -80,7 +80,7 @@ find_counter() {
     for version in 1 2 3 4 5; do
         gcc -std=c99 -O2 -Wall -Wextra -Wpedantic -Werror -fPIC -shared -DPLUGIN_VERSION=$version -o "$out/count.so" \
             bench/count.c || return 1
-        [ -n "$(counted "$out/wire" pair 2 /dev/null)" ] && return 0
+        counted "$out/wire" pair 2 /dev/null >/dev/null && return 0
     done
     return 1
 }
@@ -151,7 +151,7 @@ tell_times() {
         budgets <"$out/times"
         echo
     else
-        echo "This machine is $(uname -m): the archive runs under an emulator, where times beside the second program mean nothing."
+        echo "This machine is $(uname -m): the archive runs under an emulator, where times beside the second program say nothing."
     fi
     if [ -n "$sigrok" ]; then
         tell_sigrok_times

@@ -43,15 +43,12 @@ with_second() {
     try "build_second_$1" build_second "$1" "tests/$1.c" $2
     try "second_$1" $RUN "$out/second_$1" "${@:3}"
 }
-beside_others() { # beside_others NAME ..: with the archive, as a group of its own
-    beside "with_$1" with_archive "$@"
-}
-through_the_door() { # through_the_door with_second|beside_others
-    "$1" mangle tests/traffic.c "$mutations"
-    "$1" checks ""
-    "$1" refusals ""
-    "$1" agree "tests/second/plain.c tests/traffic.c" 400000
-    "$1" replay "" tests/vectors/base.txt
+through_the_door() { # through_the_door with_archive|with_second
+    beside "mangle_$1" "$1" mangle tests/traffic.c "$mutations"
+    beside "checks_$1" "$1" checks ""
+    beside "refusals_$1" "$1" refusals ""
+    beside "agree_$1" "$1" agree "tests/second/plain.c tests/traffic.c" 400000
+    beside "replay_$1" "$1" replay "" tests/vectors/base.txt
 }
 
 # ---- Without the archive ----
@@ -61,11 +58,6 @@ header() {
     echo '#include "wherryoar.h"' >"$out/header.c"
     try header_c99 $CC_ARCHIVE -std=c99 $strict -Iinclude -fsyntax-only "$out/header.c"
     try header_cxx11 $CXX_ARCHIVE -std=c++11 $strict -Iinclude -fsyntax-only -x c++ "$out/header.c"
-}
-
-second_program() {
-    try build_second $CC_ARCHIVE -std=c99 -O2 $strict -Itests/second -c -o "$out/second.o" tests/second/second.c
-    through_the_door with_second
 }
 
 # The report program on its stored cases, byte for byte; a case too long and dull to store is printed by a script.
@@ -147,7 +139,7 @@ as_a_whole() {
     try stack tools/stack.sh
 }
 
-# ---- All of them: while the archive is built, those without it; what is timed, by itself ----
+# ---- All of them, the longest first: while the archive is built, those without it; what is timed, by itself ----
 
 # The archive, and the state of its crate that it was built from.
 make_archive() {
@@ -160,9 +152,10 @@ whole() { # whole COMMAND..: not among the quick tests
     [ -n "$quick" ] || "$@"
 }
 
+try build_second $CC_ARCHIVE -std=c99 -O2 $strict -Itests/second -c -o "$out/second.o" tests/second/second.c
 up_to_date || { rm -f "$archive" && beside archive try archive make_archive; }
-beside second_program second_program
-whole beside sigrok_counted try bench_sigrok bench/run.sh sigrok
+whole beside sigrok try bench_sigrok bench/run.sh sigrok
+through_the_door with_second
 beside header header
 beside report_cases report_cases
 settle
@@ -170,7 +163,7 @@ export ARCHIVE_BUILT=1 # nothing below builds it again; if it could not be built
 
 beside compared compared
 whole beside instructions try bench_instructions bench/run.sh instructions
-through_the_door beside_others
+through_the_door with_archive
 beside dense_runs dense_runs
 beside as_a_whole as_a_whole
 settle

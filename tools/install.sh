@@ -10,7 +10,7 @@ mkdir -p "$1"
 prefix=$(cd "$1" && pwd)
 cd "$(dirname "$0")/.."
 
-[ -n "${ARCHIVE_BUILT:-}" ] || rt staticlib door # as in machine.sh, which has more needs than this
+[ -n "${ARCHIVE_BUILT:-}" ] || rt staticlib door # unless the caller has just built it and says so
 mkdir -p "$prefix/include" "$prefix/lib/pkgconfig"
 install -m 644 include/wherryoar.h "$prefix/include/wherryoar.h"
 install -m 644 target/staticlib/libdoor.a "$prefix/lib/libwherryoar.a"
