@@ -39,8 +39,8 @@ ninth sda = trace ((2 + sda) ∷ 1 ∷ [])
 abbrev pub given : ℕ → List Item
 given v = byte v ++ (ninth 1 ++ (Call ∷ []))
 
-abbrev pub taken : ℕ → List Item
-taken answer = byte 0xFF ++ (ninth answer ++ (Call ∷ []))
+abbrev pub fetched : ℕ → List Item
+fetched answer = byte 0xFF ++ (ninth answer ++ (Call ∷ []))
 
 abbrev pub restart : List Item
 restart = trace (1 ∷ 3 ∷ 2 ∷ [])
@@ -50,8 +50,8 @@ abbrev pub opening : ℕ → List Item
 opening v = begin ++ byte v
 
 -- P5: the report's worked example.
-abbrev pub worked : List Item
-worked =
+abbrev pub workedItems : List Item
+workedItems =
     trace
     (3 ∷ 2 ∷ 0 ∷ 2 ∷ 0 ∷ 2 ∷ 1 ∷ 3 ∷ 1 ∷ 3 ∷ 0 ∷ 2 ∷ 0 ∷ 2 ∷ 0 ∷ 2 ∷ 0 ∷ 2 ∷ 1 ∷ 3 ∷ 1 ∷ 4 ∷ 0 ∷ 2 ∷ 3 ∷ [])
 
@@ -87,8 +87,8 @@ quiet w = isQuiet (w .state .mssp .phase)
 abbrev pub pointer : ℕ → Served → Bool
 pointer p w = eqb (w .state .handler .pointer) p
 
-abbrev pub holds : ℕ → ℕ → Served → Bool
-holds place v w = eqb (getD (w .bytes) place 0) v
+abbrev pub stored : ℕ → ℕ → Served → Bool
+stored place v w = eqb (getD (w .bytes) place 0) v
 
 abbrev pub outgoing : ℕ → Phase → Bool
 outgoing v Quiet = false
@@ -128,7 +128,7 @@ table =
     ∷ case memory32 (trace (3 ∷ 2 ∷ 3 ∷ [])) (λ w. flag (λ l. l .s) w && not (flag (λ l. l .p) w))
     ∷ case memory32 (trace (3 ∷ 0 ∷ [])) (λ w. not (flag (λ l. l .s) w))
     -- P5
-    ∷ case memory32 worked (λ w. pointer 0 w && flag (λ l. l .p) w && not (flag (λ l. l .bf) w))
+    ∷ case memory32 workedItems (λ w. pointer 0 w && flag (λ l. l .p) w && not (flag (λ l. l .bf) w))
     -- P6: MSK F0
     ∷ case memory32 (Write 6 0xF0 ∷ opening 0x3E) (λ w. pulls w)
     ∷ case memory32 (Write 6 0xF0 ∷ opening 0x40) (λ w. quiet w)
@@ -139,16 +139,16 @@ table =
     ∷ case memory32 overflow (λ w. flag (λ l. l .sspov) w && buf 0x30 w && not (pulls w))
     ∷ case memory32 (overflow ++ (Read 0 ∷ (restart ++ byte 0x31))) (λ w. flag (λ l. l .sspov) w && buf 0x31 w && flag (λ l. l .bf) w && not (pulls w))
     -- P10
-    ∷ case memory32 (begin ++ (given 0x30 ++ (given 0x1F ++ (given 0xAA ++ given 0xBB)))) (λ w. holds 31 0xAA w && holds 0 0xBB w && pointer 1 w)
+    ∷ case memory32 (begin ++ (given 0x30 ++ (given 0x1F ++ (given 0xAA ++ given 0xBB)))) (λ w. stored 31 0xAA w && stored 0 0xBB w && pointer 1 w)
     -- P11: modulo n; with n 1 always 0, whichever byte comes
     ∷ case memory32 (begin ++ (given 0x30 ++ given 0xFF)) (λ w. pointer 31 w)
     ∷ case memory32 (begin ++ (given 0x30 ++ given 0x20)) (λ w. pointer 0 w)
     ∷ case (7 ∷ []) (begin ++ given 0x30) (λ w. everyByte (λ v. let x : Served = afterAll w (given v) in buf v x && pointer 0 x))
     -- P12: places 30, 31, 0; ACK, ACK, NACK
     ∷ case memory32 reading (λ w. sends 130 w)
-    ∷ case memory32 (reading ++ taken 0) (λ w. sends 131 w)
-    ∷ case memory32 (reading ++ (taken 0 ++ taken 0)) (λ w. sends 100 w)
-    ∷ case memory32 (reading ++ (taken 0 ++ (taken 0 ++ taken 1))) (λ w. pointer 1 w && quiet w)
+    ∷ case memory32 (reading ++ fetched 0) (λ w. sends 131 w)
+    ∷ case memory32 (reading ++ (fetched 0 ++ fetched 0)) (λ w. sends 100 w)
+    ∷ case memory32 (reading ++ (fetched 0 ++ (fetched 0 ++ fetched 1))) (λ w. pointer 1 w && quiet w)
     ∷ []
 
 abbrev pub runCase : Case → Bool

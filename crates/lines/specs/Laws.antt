@@ -1,5 +1,4 @@
 -- Laws that the report's proofs cite: of its lines item by item, and of the whole.
--- Assumes nothing.
 use Prim.Native.Nat.{ℕ, _+_, _<_, _≤_}
 use mathlib.Core.Path.{_≡_, refl, sym, ap, _∙_}
 use mathlib.Core.Bool.{true, true≢false}
@@ -23,19 +22,19 @@ use Rattle.text.specs.Text.{said, decimal, lineOf, numbered}
 use Rattle.text.specs.Page.{Page, page, penned}
 use Rattle.text.specs.Laws.{penned-joined, penned-none, texts-3}
 use Rattle.lines.specs.declared.Run.{Run}
-use Rattle.lines.specs.Report.{linesFrom, header, parsedReport, reportOf, runOf, Progress, progress, itemPassed, bytePassed}
+use Rattle.lines.specs.Report.{linesFrom, header, parsedReport, reportOf, runAt, Progress, progress, itemPassed, bytePassed}
 
 -- ---- the items, one by one
 module _ (run : Run) (memory output : List ℕ) where
   pub item-passed :
       (x : Item) {w : Watched} {left : List ℕ} {q : Page} → scene w left ≡ sceneAfter (run .world) memory x
       → q ≡ penned (lineOf (run .item) (w .heard) (w .world .state .handler .pointer)) (page (run .at) output)
-      → progress (runOf (w .world) (run .item + 1) (q .at)) left (q .bytes) ≡ itemPassed run memory output x
+      → progress (runAt (w .world) (run .item + 1) (q .at)) left (q .bytes) ≡ itemPassed run memory output x
   item-passed x {w} {left} e f =
-      ap (λ (t : Page). progress (runOf (w .world) (run .item + 1) (t .at)) left (t .bytes)) f
+      ap (λ (t : Page). progress (runAt (w .world) (run .item + 1) (t .at)) left (t .bytes)) f
       ∙ ap (λ (s : Scene).
       let p : Page = penned (lineOf (run .item) (s .watched .heard) (s .watched .world .state .handler .pointer)) (page (run .at) output) in
-      progress (runOf (s .watched .world) (run .item + 1) (p .at)) (s .memory) (p .bytes)) e
+      progress (runAt (s .watched .world) (run .item + 1) (p .at)) (s .memory) (p .bytes)) e
 
   pub next-item : (x : Item) {g : Progress} → g ≡ itemPassed run memory output x → g .run .item ≡ run .item + 1
   next-item x e = ap (λ (g : Progress). g .run .item) e

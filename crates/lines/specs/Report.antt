@@ -1,5 +1,4 @@
 -- The report (01, "Report program"): from the bytes of the input to the bytes of the output.
--- Assumes nothing.
 use Prim.Native.Nat.{ℕ, _+_}
 use mathlib.Core.Bool.{cond}
 use mathlib.Core.List.{List, [], _∷_, _++_}
@@ -38,8 +37,8 @@ unfoldable pub reportOf : List ℕ → List ℕ
 reportOf input = cond (ltb 60000 (length input)) (said "too long\n") (parsedReport (parse input))
 
 -- ---- the report as code goes through it, byte by byte
-abbrev pub runOf : World → ℕ → ℕ → Run
-runOf world item at = record { world = world; item = item; at = at }
+abbrev pub runAt : World → ℕ → ℕ → Run
+runAt world item at = record { world = world; item = item; at = at }
 
 pub record Progress : Type 0 where
   pub run : Run
@@ -53,7 +52,7 @@ abbrev pub itemPassed : Run → List ℕ → List ℕ → Item → Progress
 itemPassed run memory output x =
     let s : Scene = sceneAfter (run .world) memory x in
     let p : Page = penned (lineOf (run .item) (s .watched .heard) (s .watched .world .state .handler .pointer)) (page (run .at) output) in
-    progress (runOf (s .watched .world) (run .item + 1) (p .at)) (s .memory) (p .bytes)
+    progress (runAt (s .watched .world) (run .item + 1) (p .at)) (s .memory) (p .bytes)
 
 abbrev pub bytePassed : Run → List ℕ → List ℕ → Meaning → Progress
 bytePassed run memory output Skipped = progress run memory output

@@ -1,5 +1,4 @@
 -- The paper's example of a report (01, "Report program", and P5), an empty input, and what a line's pointer is.
--- Assumes nothing.
 use Prim.Native.Nat.{ℕ}
 use mathlib.Core.Path.{_≡_, refl}
 use mathlib.Core.List.{List, []}

@@ -1,5 +1,4 @@
 -- What a read has put into a buffer.
--- Assumes nothing.
 use mathlib.Core.List.{List}
 use Prim.Native.Nat.{ℕ}
 use mathlib.Core.Path.{_≡_}

@@ -1,5 +1,4 @@
 -- `input::check` meets its contract: the items counted so far, and what is left of the input.
--- Assumes nothing.
 use Prim.Native.Nat.{_-_, _≤_}
 use mathlib.Core.Path.{_≡_, sym, _∙_}
 use borrow.Author.Needs.{needs}

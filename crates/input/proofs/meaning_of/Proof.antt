@@ -1,5 +1,4 @@
 -- `input::meaning_of` meets its contract.
--- Assumes nothing.
 use borrow.Author.Tests.{ne-eqb, ltb-false}
 use Rattle.input.specs.Laws.{neither-left}
 use Rattle.input.proofs.meaning_of.Statement.{statement}

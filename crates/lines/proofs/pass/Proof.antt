@@ -1,5 +1,4 @@
 -- `lines::pass` meets its contract: only an item moves the run.
--- Assumes nothing.
 use borrow.Author.Needs.{needs}
 use native.Mathlib.Omega.{arith}
 use mathlib.Core.Path.{refl}

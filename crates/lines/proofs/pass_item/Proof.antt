@@ -1,5 +1,4 @@
 -- `lines::pass_item` meets its contract: the item is watched, then its event gets its line.
--- Assumes nothing.
 use borrow.Author.Needs.{needs}
 use native.Mathlib.Omega.{arith}
 use Rattle.text.specs.Laws.{penned-at, line-room}

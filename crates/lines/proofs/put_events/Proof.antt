@@ -1,5 +1,4 @@
 -- `lines::put_events` meets its contract: the set-up gives the state that the report begins with.
--- Assumes nothing.
 use borrow.Author.Needs.{needs}
 use mathlib.Core.Path.{_∙_}
 use Rattle.lines.specs.Laws.{begun}

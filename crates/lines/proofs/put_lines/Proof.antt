@@ -1,5 +1,4 @@
 -- `lines::put_lines` meets its contract: the page finished from here is the page finished from the first item.
--- Assumes nothing.
 use Prim.Native.Nat.{_+_, _*_, _-_, _≤_}
 use mathlib.Core.Path.{_≡_, refl, sym, _∙_}
 use mathlib.Core.Bool.{true}

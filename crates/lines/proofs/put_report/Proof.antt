@@ -1,5 +1,4 @@
 -- `lines::put_report` meets its contract: the header, the lines and the number of items, one after another.
--- Assumes nothing.
 use borrow.Author.Needs.{needs}
 use native.Mathlib.Omega.{arith}
 use Rattle.input.specs.Laws.{whole-clean, whole-short}

@@ -1,5 +1,4 @@
 -- `lines::write_report` meets its contract: too long, refused or whole.
--- Assumes nothing.
 use borrow.Author.Needs.{needs}
 use native.Mathlib.Omega.{arith}
 use mathlib.Core.Path.{sym, _∙_}

@@ -1,5 +1,4 @@
 -- `report::main` meets its contract.
--- Assumes nothing.
 use borrow.Author.Needs.{needs}
 use native.Mathlib.Omega.{arith}
 use Rattle.report.specs.Got.{within}

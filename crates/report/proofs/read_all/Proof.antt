@@ -1,5 +1,4 @@
 -- `report::read_all` meets its contract: the bytes so far lie within the buffer, which keeps its length.
--- Assumes nothing.
 use Prim.Native.Nat.{_-_, _≤_}
 use mathlib.Core.Path.{_≡_, refl, sym}
 use borrow.Author.Needs.{needs}
