@@ -1,5 +1,4 @@
 -- The address comparison (01, "From levels to bytes", Address).
--- Assumes nothing.
 use Prim.Native.Nat.{ℕ, _/_, _%_, _^_}
 use mathlib.Core.Bool.{Bool, _&&_, _||_}
 use lib.Dec.{eqb}

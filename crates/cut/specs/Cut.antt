@@ -1,6 +1,5 @@
 -- Where the screen's left edge is has no part in what is read. Cut a record anywhere: from the first Start that the reader
 -- of the later part hears, its state is that of the reader of the whole record, at every item after it.
--- Assumes nothing.
 use Prim.Native.Nat.{ℕ}
 use mathlib.Core.Path.{_≡_, refl, sym, ap, _∙_}
 use mathlib.Core.Bool.{Bool, true, false}

@@ -1,5 +1,4 @@
 -- What each function of the door answers and leaves, for every input (01, "Calls, refusals and their order").
--- Assumes nothing.
 use Prim.Native.Nat.{ℕ}
 use mathlib.Core.Bool.{Bool, true, false, cond}
 use mathlib.Core.List.{List}

@@ -1,6 +1,5 @@
 -- All that a call through the door decides (01, "Calls, refusals and their order"): the answer's numbers, the state's bytes,
 -- and, where memory is lent, the memory's.
--- Assumes nothing.
 use Prim.Native.Nat.{ℕ}
 use mathlib.Core.List.{List}
 use Rattle.refusals.specs.declared.Refusal.{Refusal}

@@ -1,6 +1,5 @@
 -- What the door promises beside its contracts (01, "Calls, refusals and their order" and "What the contracts have to decide"):
 -- only one outcome fits each contract, and a refused call leaves the state's bytes and the buffer's.
--- Assumes nothing.
 use Prim.Native.Nat.{ℕ, _<_}
 use mathlib.Core.Path.{_≡_, refl, sym, ap, _∙_}
 use mathlib.Core.Bool.{Bool, true, false}

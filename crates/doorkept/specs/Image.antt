@@ -1,6 +1,5 @@
 -- An accepted call through the door leaves a state's image, and a refused one the image that was there: a host that keeps to
 -- the door never loses its state.
--- Assumes nothing.
 use Prim.Native.Nat.{ℕ, zero, suc}
 use mathlib.Core.Path.{_≡_, refl}
 use mathlib.Core.Bool.{Bool, true, false, _&&_}

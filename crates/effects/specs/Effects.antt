@@ -1,6 +1,5 @@
 -- What reading BUF, writing BUF and setting CKP do to the module (01, "Register numbers" and "From levels to bytes").
 -- The registers and the handler both act through these.
--- Assumes nothing.
 use Prim.Native.Nat.{ℕ}
 use mathlib.Core.Bool.{Bool, true, false, cond, _||_, not}
 use Rattle.mssp.specs.declared.Phase.{Phase}

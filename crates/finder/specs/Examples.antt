@@ -1,5 +1,4 @@
 -- Records whose messages can be read off by eye, computed: what each finds, item by item.
--- Assumes nothing.
 use Prim.Native.Nat.{ℕ}
 use lib.Dec.{T, eqb}
 use mathlib.Core.Bool.{Bool, true, _&&_}

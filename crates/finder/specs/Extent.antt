@@ -1,6 +1,5 @@
 -- `placeAt` and `endAt` find exactly the messages: an item lies inside one if and only if that one is under way there,
 -- and the end found makes it whole.
--- Assumes nothing.
 use Prim.Native.Nat.{ℕ, zero, suc, _+_, _-_, _<_, _≤_}
 use mathlib.Core.Path.{_≡_, refl, sym, ap, _∙_}
 use mathlib.Core.List.{List}

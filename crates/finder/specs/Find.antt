@@ -1,6 +1,5 @@
 -- What the finder answers (01, "The wire record and the message under the cursor", and refusals 4 and 7 of "Calls,
 -- refusals and their order").
--- Assumes nothing.
 use Prim.Native.Nat.{ℕ, _+_, _-_}
 use mathlib.Core.List.{List}
 use mathlib.Core.Bool.{Bool, true, false}

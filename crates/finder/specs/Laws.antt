@@ -1,6 +1,5 @@
 -- Laws that the finder's proofs cite: a reading one item on, the end of a message one item on, the first bad item, and
 -- that a part lies inside its record.
--- Assumes nothing.
 use Prim.Native.Nat.{ℕ, zero, suc, _+_, _-_, _<_, _≤_}
 use mathlib.Core.Path.{_≡_, refl, ap, _∙_}
 use mathlib.Core.List.{List}

@@ -1,6 +1,5 @@
 -- The messages of a wire record (01, "The wire record and the message under the cursor"): which items are a Start or a
 -- Stop, where an item lies, and where its message ends. Items are numbered from 0; the edges are those of crate `wire`.
--- Assumes nothing.
 use Prim.Native.Nat.{ℕ, zero, suc, _-_, _<_, _≤_}
 use mathlib.Core.Path.{_≡_}
 use mathlib.Core.List.{List}

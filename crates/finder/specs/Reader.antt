@@ -1,5 +1,4 @@
 -- What the finder carries from item to item: the record's line, and the edge and the place of the item just read.
--- Assumes nothing.
 use Prim.Native.Nat.{ℕ, zero, suc}
 use mathlib.Core.List.{List}
 use Rattle.wire.specs.declared.Edge.{Edge}

@@ -1,7 +1,6 @@
 -- What the finder's answers are, whatever the record and the item (01, "The wire record and the message under the
 -- cursor", and refusals 4 and 7): a part is exactly the message, each of its items finds it, an item in no message has
 -- the empty part, and each refusal has its one cause.
--- Assumes nothing.
 use Prim.Native.Nat.{ℕ, zero, suc, _+_, _-_, _<_, _≤_}
 use mathlib.Core.Path.{_≡_, refl, sym, ap, _∙_}
 use mathlib.Core.List.{List, [], _∷_}

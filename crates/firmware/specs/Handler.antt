@@ -1,5 +1,4 @@
 -- The handler (01, "Handler and plain device"): its set-up and what a call does.
--- Assumes nothing.
 use Prim.Native.Nat.{ℕ}
 use mathlib.Core.Bool.{Bool, true, false, cond, _||_}
 use mathlib.Core.List.{List}

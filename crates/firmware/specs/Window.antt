@@ -1,6 +1,5 @@
 -- The window that the handler works on (01, "Handler and plain device" and refusal 5): it may start anywhere in the
 -- caller's buffer, and the bytes outside it never change.
--- Assumes nothing.
 use Prim.Native.Nat.{ℕ, _+_}
 use mathlib.Core.Bool.{Bool, true, false, _&&_}
 use mathlib.Core.List.{List, _++_}

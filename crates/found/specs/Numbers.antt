@@ -1,5 +1,4 @@
 -- The numbers of a search's answer (01, "The wire record and the message under the cursor").
--- Assumes nothing.
 use Prim.Native.Nat.{ℕ}
 use Rattle.refusals.specs.Numbers.{numberOf}
 use Rattle.found.specs.declared.Found.{Found}

@@ -1,5 +1,4 @@
 -- The handler's part of an image: n and the pointer, each low byte first, and whether a pointer is due; and the way back.
--- Assumes nothing.
 use Prim.Native.Nat.{ℕ, _+_, _*_, _/_, _%_}
 use mathlib.Core.Bool.{Bool, _&&_}
 use mathlib.Core.List.{List, [], _∷_}

@@ -1,5 +1,4 @@
 -- The image of a state (01, "Calls, refusals and their order"): exactly 48 bytes, each state one image. The layout is ours.
--- Assumes nothing.
 use Prim.Native.Nat.{ℕ, _-_}
 use mathlib.Core.Bool.{Bool, cond, _&&_}
 use mathlib.Core.List.{List, _++_}

@@ -1,6 +1,5 @@
 -- What the image promises (01, "Calls, refusals and their order"): a valid state comes back from its image, bytes that decode are
 -- the image of the state they give, which is valid, and no other bytes decode.
--- Assumes nothing.
 use Prim.Native.Nat.{ℕ}
 use mathlib.Core.Logic.{_↔_}
 use mathlib.Core.Path.{_≡_, refl, sym, ap, _∙_}

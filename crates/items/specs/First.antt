@@ -1,6 +1,5 @@
 -- The first item of a kind (01, "Calls, refusals and their order"): how many items stand before it. The number of the first
 -- item out of range goes beside refusal 4.
--- Assumes nothing.
 use Prim.Native.Nat.{ℕ, suc, _+_, _≤_}
 use mathlib.Core.Path.{_≡_}
 use mathlib.Core.Bool.{Bool, cond, _&&_}

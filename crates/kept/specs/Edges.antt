@@ -1,5 +1,4 @@
 -- What one edge keeps of each clause of a state (01, "A state is any setting of ..").
--- Assumes nothing.
 use Prim.Native.Nat.{ℕ, _+_, _*_, _%_, _^_, _<_, _≤_}
 use mathlib.Core.Path.{_≡_, refl}
 use mathlib.Core.Bool.{Bool, true, false, cond, _||_, _&&_, not}

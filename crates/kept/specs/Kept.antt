@@ -1,5 +1,4 @@
 -- A state stays a state: after set-up, and after every sample, read and accepted write.
--- Assumes nothing.
 use Prim.Native.Nat.{ℕ}
 use mathlib.Core.Path.{_≡_, refl, sym}
 use mathlib.Core.Bool.{Bool, true, false, true≢false, cond, _||_, _&&_, not}

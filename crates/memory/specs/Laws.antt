@@ -1,5 +1,4 @@
 -- Laws of a memory's pointer.
--- Assumes nothing.
 use Prim.Native.Nat.{ℕ, _%_, _<_}
 use mathlib.Core.Path.{_≡_}
 use native.Mathlib.Omega.{arith}

@@ -1,5 +1,4 @@
 -- A memory with a pointer (01, "Handler and plain device"). The handler and the plain device both move it by these alone.
--- Assumes nothing.
 use Prim.Native.Nat.{ℕ, _+_, _%_}
 use mathlib.Core.Bool.{Bool, true, false, cond}
 use mathlib.Core.List.{List}

@@ -1,6 +1,5 @@
 -- The module's part of an image: the eight registers as they read, the phase with its parts, and the line; and the way back.
 -- A byte of an image is the number itself.
--- Assumes nothing.
 use Prim.Native.Nat.{ℕ}
 use mathlib.Core.List.{List, [], _∷_}
 use mir.Val.{boolByte}

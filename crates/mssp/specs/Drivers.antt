@@ -1,5 +1,4 @@
 -- What the module pulls, read off the phase (01, "From levels to bytes": Hold, slot, Sending).
--- Assumes nothing.
 use mathlib.Core.Bool.{Bool, true, false}
 use Rattle.wire.specs.Byte.{zeroAt}
 use Rattle.mssp.specs.declared.Phase.{Phase}

@@ -1,5 +1,4 @@
 -- A state's test and its clauses by name say the same.
--- Assumes nothing.
 use mathlib.Core.Bool.{Bool, true, false, _&&_}
 use lib.Dec.{T}
 use Rattle.mssp.specs.declared.Module.{Module}

@@ -1,6 +1,5 @@
 -- The module pulls SCL in the three holds and SDA in a pulling slot and for 0 bits, and nowhere else (01, "From levels to
 -- bytes": Hold, slot, Sending).
--- Assumes nothing.
 use Prim.Native.Nat.{ℕ}
 use mathlib.Core.Path.{_≡_, refl}
 use mathlib.Core.Bool.{Bool, true, false}

@@ -1,6 +1,5 @@
 -- Which states there are (01, "Calls, refusals and their order", "A state is any setting of .."), clause by clause.
 -- Bits that are always 0 (UA, BOEN, CON2 4..1, flag 7..1) have no place in the state at all.
--- Assumes nothing.
 use Prim.Native.Nat.{_^_}
 use mathlib.Core.Bool.{Bool, true, false, _&&_, _||_, not}
 use lib.Dec.{T, eqb, leb, ltb}

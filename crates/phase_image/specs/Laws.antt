@@ -1,5 +1,4 @@
 -- Phase and remembered wire come back from their bytes.
--- Assumes nothing.
 use mathlib.Core.Path.{_≡_, refl}
 use mathlib.Core.Bool.{true, false}
 use Rattle.wire.specs.declared.Remembered.{Remembered}

@@ -1,5 +1,4 @@
 -- A phase as four bytes, the remembered wire as one, and the way back.
--- Assumes nothing.
 use Prim.Native.Nat.{ℕ, _+_, _*_}
 use mathlib.Core.Bool.{Bool, false, cond}
 use mir.Val.{boolByte}

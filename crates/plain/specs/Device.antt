@@ -1,6 +1,5 @@
 -- The plain device (01, "Handler and plain device"): memory, pointer and turn, what it does with what it hears, and where
 -- it owes a low SDA.
--- Assumes nothing.
 use Prim.Native.Nat.{ℕ, _/_, _%_, _^_, pred}
 use mathlib.Core.Bool.{Bool, true, false, _&&_, not}
 use mathlib.Core.List.{List}

@@ -1,5 +1,4 @@
 -- A byte is made of its own bits: one test over all 256, computed, and the law that it gives.
--- Assumes nothing.
 use Prim.Native.Nat.{ℕ, zero, suc, _<_}
 use mathlib.Core.Path.{_≡_, sym, subst}
 use mathlib.Core.Logic.{⊎-elim}

@@ -1,6 +1,5 @@
 -- What a read gives after a write, for every state and all 256 values, and what each write leaves alone
 -- (01, "Register numbers").
--- Assumes nothing.
 use Prim.Native.Nat.{ℕ, _<_}
 use mathlib.Core.Path.{_≡_, refl, sym, _∙_}
 use mathlib.Core.Bool.{Bool, true, false, cond, _&&_, not}

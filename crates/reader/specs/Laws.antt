@@ -1,5 +1,4 @@
 -- A record read in two parts is read as a whole.
--- Assumes nothing.
 use mathlib.Core.Path.{_≡_, refl}
 use mathlib.Core.List.{List, [], _∷_, _++_}
 use Rattle.reader.specs.declared.Reader.{Reader}

@@ -1,6 +1,5 @@
 -- The plain reader of the wire (01, "Handler and plain device"): it counts bytes from each Start, and reads none after a
 -- Stop or before the first Start.
--- Assumes nothing.
 use Prim.Native.Nat.{ℕ}
 use mathlib.Core.Bool.{Bool, true, false}
 use Rattle.wire.specs.declared.Bits.{Bits}

@@ -1,5 +1,4 @@
 -- A wire record, read level by level: the reader over a whole record.
--- Assumes nothing.
 use mathlib.Core.Bool.{Bool}
 use mathlib.Core.List.{List, [], _∷_}
 use Rattle.reader.specs.declared.Reader.{Reader}

@@ -1,5 +1,4 @@
 -- The numbers of the refusals (01, "Calls, refusals and their order", the table), and which verdict accepts.
--- Assumes nothing.
 use Prim.Native.Nat.{ℕ}
 use mathlib.Core.Bool.{Bool, true, false}
 use Rattle.refusals.specs.declared.Refusal.{Refusal}

@@ -1,5 +1,4 @@
 -- A byte packed from eight bits has just these bits: one test over all of them, computed, and the law that it gives.
--- Assumes nothing.
 use Prim.Native.Nat.{ℕ, zero, suc}
 use mathlib.Core.Path.{_≡_, refl}
 use mathlib.Core.Bool.{Bool, true, false, not, _&&_}

@@ -1,5 +1,4 @@
 -- Which bit of STAT, CON1, CON2 and CON3 stands where (01, "Register numbers").
--- Assumes nothing.
 use Prim.Native.Nat.{ℕ, _+_, _*_}
 use mathlib.Core.Bool.{Bool, false}
 use mir.Val.{boolByte}

@@ -1,5 +1,4 @@
 -- The registers by number, and what a read gives and changes (01, "Register numbers").
--- Assumes nothing.
 use Prim.Native.Nat.{ℕ}
 use mathlib.Core.Bool.{cond}
 use mir.Val.{boolByte}

@@ -1,5 +1,4 @@
 -- A state stays a state, the module and the handler: after set-up, and after every handler call, item and run.
--- Assumes nothing.
 use Prim.Native.Nat.{ℕ, _+_, _<_, _≤_}
 use mathlib.Core.Path.{_≡_, refl}
 use mathlib.Core.Bool.{Bool, true, false, true≢false, cond, _||_}

@@ -1,5 +1,4 @@
 -- The rules of 01, "From levels to bytes", in its order: one definition for each, named after what has happened.
--- Assumes nothing.
 use Prim.Native.Nat.{ℕ, _+_}
 use mathlib.Core.Bool.{Bool, true, false, cond, _||_, _&&_, not}
 use lib.Dec.{ltb}

@@ -1,6 +1,5 @@
 -- Every item of a stretch is a sample that leaves all flags as they are: what the stretch says of phase and line is what
 -- the rules say.
--- Assumes nothing.
 use Prim.Native.Nat.{ℕ, _+_, _%_, _<_}
 use mathlib.Core.Path.{_≡_, refl, sym, ap, _∙_}
 use mathlib.Core.Bool.{Bool, true, false, cond, _||_}

@@ -1,5 +1,4 @@
 -- The wire in a stretch: what a level is to it.
--- Assumes nothing.
 use Prim.Native.Nat.{ℕ, _+_, _%_}
 use mathlib.Core.Bool.{Bool, true, false, cond, _&&_}
 use Rattle.wire.specs.declared.Bits.{Bits}

@@ -1,5 +1,4 @@
 -- Stretches: how far a module goes before an item that a rule has to see, and where that leaves it.
--- Assumes nothing.
 use Prim.Native.Nat.{ℕ}
 use mathlib.Core.Bool.{Bool, true, false, _||_, not}
 use mathlib.Core.List.{List}

@@ -1,5 +1,4 @@
 -- A walk along the items of a trace: on from item to item until one ends it. Every loop of a stretch is one.
--- Assumes nothing.
 use Prim.Native.Nat.{ℕ, suc}
 use mathlib.Core.Bool.{Bool, cond}
 use mathlib.Core.List.{List, [], _∷_}

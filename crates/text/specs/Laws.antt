@@ -1,5 +1,4 @@
 -- Laws of the report's text that proofs cite: of a page, of decimal digits, and of how long a line is.
--- Assumes nothing.
 use Prim.Native.Nat.{ℕ, zero, suc, _+_, _/_, _%_, _<_, _≤_}
 use Prim.Native.Char.{code}
 use mathlib.Core.Path.{_≡_, refl, ap, ap₂, _∙_}

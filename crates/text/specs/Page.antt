@@ -1,5 +1,4 @@
 -- A page: a lent buffer and the place where the next byte goes.
--- Assumes nothing.
 use Prim.Native.Nat.{ℕ, _+_}
 use mathlib.Core.List.{List}
 use lib.ListN.{length}

@@ -1,5 +1,4 @@
 -- The report's text, as bytes (01, "Report program"): its numbers, and the line of an event.
--- Assumes nothing.
 use Prim.Native.Nat.{ℕ, zero, suc, _+_, _-_, _/_, _%_}
 use Prim.Native.Char.{code}
 use Prim.Native.String.{String}

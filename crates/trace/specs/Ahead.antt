@@ -1,6 +1,5 @@
 -- A run over a stretch is the run from where the stretch ends: every item of it is a sample that the rules leave the module
 -- there with.
--- Assumes nothing.
 use Prim.Native.Nat.{ℕ, suc, _+_, _-_, _<_, _≤_}
 use mathlib.Core.Path.{_≡_, refl, sym, ap, ap₂, subst, _∙_}
 use mathlib.Core.Bool.{Bool, true, false, cond}

@@ -1,6 +1,5 @@
 -- What a run is, said without its code: single steps one after the other, over a window that keeps its length, in a buffer
 -- whose other bytes stay; and the first bad item is the first.
--- Assumes nothing.
 use Prim.Native.Nat.{ℕ, suc, _+_, _<_, _≤_}
 use mathlib.Core.Path.{_≡_, refl, sym, ap, _∙_}
 use mathlib.Core.Bool.{Bool, true, false, true≢false}

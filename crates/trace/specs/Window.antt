@@ -1,5 +1,4 @@
 -- A run over a window of the caller's buffer, and its refusals (01, "Calls, refusals and their order"): 5 before 4.
--- Assumes nothing.
 use Prim.Native.Nat.{ℕ}
 use mathlib.Core.Bool.{Bool, true, false}
 use mathlib.Core.List.{List}

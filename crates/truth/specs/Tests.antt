@@ -1,5 +1,4 @@
 -- Laws of tests: what two tests together say, and the two ways that one can come out.
--- Assumes nothing.
 use mathlib.Core.Path.{_≡_, refl, sym}
 use mathlib.Core.Bool.{Bool, true, false, true≢false, _&&_, _||_}
 use lib.Dec.{T}

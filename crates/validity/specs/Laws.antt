@@ -1,5 +1,4 @@
 -- A law of shifts.
--- Assumes nothing.
 use Prim.Native.Nat.{ℕ, _*_, _%_, _^_, _≤_}
 use mathlib.Core.Path.{_≡_, _∙_}
 use lib.Pow.{shl-exact}

@@ -1,6 +1,5 @@
 -- What the scope draws of a state: the registers read without effect, what the module pulls, its phase with its parts, the
 -- line, and the handler's variables.
--- Assumes nothing.
 use mathlib.Core.Bool.{Bool, false}
 use mir.Val.{boolByte}
 use Rattle.refusals.specs.declared.Refusal.the-variants.{NoState}

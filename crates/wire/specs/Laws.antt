@@ -1,5 +1,4 @@
 -- Laws of the wire and of bits.
--- Assumes nothing.
 use Prim.Native.Nat.{_≤_}
 use mathlib.Core.Bool.{Bool, true, false}
 use native.Mathlib.Omega.{arith}

@@ -1,6 +1,5 @@
 -- Edges of the wire (01, "From levels to bytes"). The module, the plain reader and the finder read the wire by these
 -- definitions and by no others.
--- Assumes nothing.
 use Prim.Native.Nat.{ℕ}
 use mathlib.Core.Bool.{Bool, true, false, _&&_, _||_, not}
 use Rattle.wire.specs.Byte.{bit}

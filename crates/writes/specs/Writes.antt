@@ -1,5 +1,4 @@
 -- What a write takes, what it does beside that, and why it is refused (01, "Register numbers" and refusals 1 to 3).
--- Assumes nothing.
 use Prim.Native.Nat.{ℕ, _/_, _%_}
 use mathlib.Core.Bool.{Bool, true, false, cond, _&&_, not}
 use mathlib.Core.List.{List, [], _∷_}

@@ -1,5 +1,4 @@
 -- `door::refuse` meets its contract.
--- Assumes nothing.
 use borrow.Author.Needs.{needs}
 use Rattle.door.proofs.refuse.Statement.{statement}
 use Rattle.door.proofs.refuse.Tie as tie

@@ -1,5 +1,4 @@
 -- `door::settle` meets its contract.
--- Assumes nothing.
 use borrow.Author.Needs.{needs}
 use denote.Ref.{now}
 use Rattle.door.specs.Laws.{settle-done, settle-refused}

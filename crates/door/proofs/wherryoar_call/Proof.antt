@@ -1,5 +1,4 @@
 -- `door::wherryoar_call` meets its contract.
--- Assumes nothing.
 use borrow.Author.Needs.{needs}
 use Rattle.door.specs.Laws.{decoded-length, no-image, of-state, call-settled}
 use Rattle.door.proofs.wherryoar_call.Statement.{statement}

@@ -1,5 +1,4 @@
 -- `door::wherryoar_find` meets its contract.
--- Assumes nothing.
 use borrow.Author.Needs.{needs}
 use Rattle.door.proofs.wherryoar_find.Statement.{statement}
 use Rattle.door.proofs.wherryoar_find.Tie as tie

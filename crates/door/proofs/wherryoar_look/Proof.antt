@@ -1,5 +1,4 @@
 -- `door::wherryoar_look` meets its contract.
--- Assumes nothing.
 use borrow.Author.Needs.{needs}
 use Rattle.door.specs.Laws.{no-image, of-state}
 use Rattle.door.proofs.wherryoar_look.Statement.{statement}

@@ -1,5 +1,4 @@
 -- `door::wherryoar_read` meets its contract.
--- Assumes nothing.
 use borrow.Author.Needs.{needs}
 use denote.Ref.{now}
 use Rattle.registers.specs.Values.{readOf}

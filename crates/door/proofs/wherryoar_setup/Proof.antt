@@ -1,5 +1,4 @@
 -- `door::wherryoar_setup` meets its contract.
--- Assumes nothing.
 use borrow.Author.Needs.{needs}
 use native.Mathlib.Omega.{arith}
 use denote.Ref.{now}

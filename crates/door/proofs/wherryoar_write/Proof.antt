@@ -1,5 +1,4 @@
 -- `door::wherryoar_write` meets its contract.
--- Assumes nothing.
 use borrow.Author.Needs.{needs}
 use denote.Ref.{now}
 use Rattle.writes.specs.Writes.{writeOf}

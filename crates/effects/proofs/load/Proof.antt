@@ -1,5 +1,4 @@
 -- `effects::load` meets its contract.
--- Assumes nothing.
 use borrow.Author.Needs.{needs}
 use Rattle.effects.proofs.load.Statement.{statement}
 use Rattle.effects.proofs.load.Tie as tie

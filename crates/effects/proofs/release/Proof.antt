@@ -1,5 +1,4 @@
 -- `effects::release` meets its contract.
--- Assumes nothing.
 use borrow.Author.Needs.{needs}
 use Rattle.effects.proofs.release.Statement.{statement}
 use Rattle.effects.proofs.release.Tie as tie

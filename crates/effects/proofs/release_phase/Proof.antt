@@ -1,5 +1,4 @@
 -- `effects::release_phase` meets its contract.
--- Assumes nothing.
 use borrow.Author.Needs.{needs}
 use Rattle.effects.proofs.release_phase.Statement.{statement}
 use Rattle.effects.proofs.release_phase.Tie as tie

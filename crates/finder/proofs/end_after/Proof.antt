@@ -1,5 +1,4 @@
 -- `finder::end_after` meets its contract: the message goes on up to the item that the loop has come to.
--- Assumes nothing.
 use Prim.Native.Nat.{_-_, _≤_}
 use mathlib.Core.Path.{_≡_, sym, _∙_}
 use borrow.Author.Needs.{needs}

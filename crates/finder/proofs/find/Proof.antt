@@ -1,5 +1,4 @@
 -- `finder::find` meets its contract: the part lies inside the record, and is the one found.
--- Assumes nothing.
 use borrow.Author.Needs.{needs}
 use native.Mathlib.Omega.{arith}
 use Rattle.finder.specs.Laws.{span-within, part-taken, part-lies}

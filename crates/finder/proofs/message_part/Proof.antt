@@ -1,5 +1,4 @@
 -- `finder::message_part` meets its contract, in a message and in none.
--- Assumes nothing.
 use borrow.Author.Needs.{needs}
 use Rattle.finder.specs.Laws.{part-outside, part-inside, part-order}
 use Rattle.finder.proofs.message_part.Statement.{statement}

@@ -1,5 +1,4 @@
 -- `finder::place_of` meets its contract.
--- Assumes nothing.
 use borrow.Author.Needs.{needs}
 use Rattle.finder.proofs.place_of.Statement.{statement}
 use Rattle.finder.proofs.place_of.Tie as tie

@@ -1,5 +1,4 @@
 -- `finder::read_on` meets its contract: its callees say each part of the reading.
--- Assumes nothing.
 use borrow.Author.Needs.{needs}
 use Rattle.finder.proofs.read_on.Statement.{statement}
 use Rattle.finder.proofs.read_on.Tie as tie

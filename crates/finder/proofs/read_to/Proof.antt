@@ -1,5 +1,4 @@
 -- `finder::read_to` meets its contract: the reading is that of the items passed.
--- Assumes nothing.
 use Prim.Native.Nat.{_-_, _≤_}
 use mathlib.Core.Path.{_≡_, _∙_, ap}
 use borrow.Author.Needs.{needs}

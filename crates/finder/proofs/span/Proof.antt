@@ -1,5 +1,4 @@
 -- `finder::span` meets its contract, each way through it.
--- Assumes nothing.
 use mathlib.Core.Path.{_∙_}
 use borrow.Author.Needs.{needs}
 use Rattle.finder.specs.Laws.{span-bad, span-past, span-part}

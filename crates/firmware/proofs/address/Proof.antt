@@ -1,5 +1,4 @@
 -- `firmware::address` meets its contract.
--- Assumes nothing.
 use borrow.Author.Needs.{needs}
 use Rattle.firmware.proofs.address.Statement.{statement}
 use Rattle.firmware.proofs.address.Tie as tie

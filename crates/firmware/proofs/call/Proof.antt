@@ -1,5 +1,4 @@
 -- `firmware::call` meets its contract.
--- Assumes nothing.
 use borrow.Author.Needs.{needs}
 use denote.Ref.{now}
 use Rattle.firmware.specs.Laws.{inside, call-done, call-refused}

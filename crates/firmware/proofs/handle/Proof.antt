@@ -1,5 +1,4 @@
 -- `firmware::handle` meets its contract.
--- Assumes nothing.
 use borrow.Author.Needs.{needs}
 use Rattle.firmware.specs.Laws.{call-idle, call-clears, call-sends, call-takes, call-addresses}
 use Rattle.firmware.proofs.handle.Statement.{statement}

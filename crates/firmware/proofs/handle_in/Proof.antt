@@ -1,5 +1,4 @@
 -- `firmware::handle_in` meets its contract.
--- Assumes nothing.
 use borrow.Author.Needs.{needs}
 use denote.Ref.{now}
 use Rattle.firmware.specs.Handler.{called}

@@ -1,5 +1,4 @@
 -- `firmware::send` meets its contract.
--- Assumes nothing.
 use borrow.Author.Needs.{needs}
 use Rattle.firmware.proofs.send.Statement.{statement}
 use Rattle.firmware.proofs.send.Tie as tie

@@ -1,5 +1,4 @@
 -- `firmware::set_up` meets its contract.
--- Assumes nothing.
 use borrow.Author.Needs.{needs}
 use borrow.Author.Tests.{lt-ltb, le-ltb, ne-eqb}
 use Rattle.firmware.proofs.set_up.Statement.{statement}

@@ -1,5 +1,4 @@
 -- `firmware::take` meets its contract.
--- Assumes nothing.
 use borrow.Author.Needs.{needs}
 use Rattle.firmware.proofs.take.Statement.{statement}
 use Rattle.firmware.proofs.take.Tie as tie

@@ -1,5 +1,4 @@
 -- `firmware::window_fits` meets its contract.
--- Assumes nothing.
 use Rattle.firmware.specs.Laws.{fits-not, fits-so}
 use Rattle.firmware.proofs.window_fits.Statement.{statement}
 use Rattle.firmware.proofs.window_fits.Tie as tie

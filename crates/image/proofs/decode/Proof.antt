@@ -1,5 +1,4 @@
 -- `image::decode` meets its contract.
--- Assumes nothing.
 use borrow.Author.Needs.{needs}
 use mathlib.Core.Path.{sym}
 use Rattle.image.specs.Laws.{decoded}

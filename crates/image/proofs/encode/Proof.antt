@@ -1,5 +1,4 @@
 -- `image::encode` meets its contract.
--- Assumes nothing.
 use borrow.Author.Needs.{needs}
 use Rattle.image.specs.Laws.{joined}
 use Rattle.image.proofs.encode.Statement.{statement}

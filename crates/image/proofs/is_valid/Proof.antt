@@ -1,5 +1,4 @@
 -- `image::is_valid` meets its contract.
--- Assumes nothing.
 use borrow.Author.Needs.{needs}
 use Rattle.image.proofs.is_valid.Statement.{statement}
 use Rattle.image.proofs.is_valid.Tie as tie

@@ -1,5 +1,4 @@
 -- `image::parse` meets its contract.
--- Assumes nothing.
 use borrow.Author.Needs.{needs}
 use Rattle.image.specs.Laws.{parsed}
 use Rattle.image.proofs.parse.Statement.{statement}

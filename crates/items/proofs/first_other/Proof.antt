@@ -1,5 +1,4 @@
 -- `items::first_other` meets its contract.
--- Assumes nothing.
 use Prim.Native.Nat.{ℕ, _-_}
 use native.Mathlib.Omega.{arith}
 use lib.Dec.{eqb}

@@ -1,5 +1,4 @@
 -- `module_image::module_from` meets its contract.
--- Assumes nothing.
 use borrow.Author.Needs.{needs}
 use Rattle.module_image.proofs.module_from.Statement.{statement}
 use Rattle.module_image.proofs.module_from.Tie as tie

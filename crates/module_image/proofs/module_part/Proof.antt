@@ -1,5 +1,4 @@
 -- `module_image::module_part` meets its contract.
--- Assumes nothing.
 use borrow.Author.Needs.{needs}
 use Rattle.module_image.proofs.module_part.Statement.{statement}
 use Rattle.module_image.proofs.module_part.Tie as tie

@@ -1,5 +1,4 @@
 -- `mssp::pick_module` meets its contract.
--- Assumes nothing.
 use Rattle.mssp.proofs.pick_module.Statement.{statement}
 use Rattle.mssp.proofs.pick_module.Tie as tie
 

@@ -1,5 +1,4 @@
 -- `mssp::pulls_sda` meets its contract.
--- Assumes nothing.
 use borrow.Author.Needs.{needs}
 use Rattle.mssp.proofs.pulls_sda.Statement.{statement}
 use Rattle.mssp.proofs.pulls_sda.Tie as tie

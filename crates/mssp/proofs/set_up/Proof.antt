@@ -1,5 +1,4 @@
 -- `mssp::set_up` meets its contract.
--- Assumes nothing.
 use borrow.Author.Needs.{needs}
 use Rattle.mssp.proofs.set_up.Statement.{statement}
 use Rattle.mssp.proofs.set_up.Tie as tie

@@ -1,5 +1,4 @@
 -- `phase_image::wire_from` meets its contract.
--- Assumes nothing.
 use borrow.Author.Tests.{ne-eqb}
 use Rattle.phase_image.proofs.wire_from.Statement.{statement}
 use Rattle.phase_image.proofs.wire_from.Tie as tie

@@ -1,5 +1,4 @@
 -- `plain::bit_place` meets its contract.
--- Assumes nothing.
 use borrow.Author.Needs.{needs}
 use native.Mathlib.Numerals.{sub-one}
 use Rattle.plain.proofs.bit_place.Statement.{statement}

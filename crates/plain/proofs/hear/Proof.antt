@@ -1,5 +1,4 @@
 -- `plain::hear` meets its contract.
--- Assumes nothing.
 use borrow.Author.Needs.{needs}
 use Rattle.plain.proofs.hear.Statement.{statement}
 use Rattle.plain.proofs.hear.Tie as tie

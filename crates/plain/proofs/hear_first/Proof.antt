@@ -1,5 +1,4 @@
 -- `plain::hear_first` meets its contract.
--- Assumes nothing.
 use borrow.Author.Needs.{needs}
 use borrow.Author.Tests.{ne-eqb}
 use Rattle.plain.proofs.hear_first.Statement.{statement}

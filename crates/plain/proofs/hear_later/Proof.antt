@@ -1,5 +1,4 @@
 -- `plain::hear_later` meets its contract.
--- Assumes nothing.
 use borrow.Author.Needs.{needs}
 use Rattle.plain.proofs.hear_later.Statement.{statement}
 use Rattle.plain.proofs.hear_later.Tie as tie

@@ -1,5 +1,4 @@
 -- `plain::lay_out` meets its contract.
--- Assumes nothing.
 use borrow.Author.Needs.{needs}
 use Rattle.plain.proofs.lay_out.Statement.{statement}
 use Rattle.plain.proofs.lay_out.Tie as tie

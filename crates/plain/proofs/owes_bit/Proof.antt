@@ -1,5 +1,4 @@
 -- `plain::owes_bit` meets its contract.
--- Assumes nothing.
 use borrow.Author.Needs.{needs}
 use Rattle.plain.proofs.owes_bit.Statement.{statement}
 use Rattle.plain.proofs.owes_bit.Tie as tie

@@ -1,5 +1,4 @@
 -- `plain::owes_low` meets its contract.
--- Assumes nothing.
 use borrow.Author.Needs.{needs}
 use Rattle.plain.proofs.owes_low.Statement.{statement}
 use Rattle.plain.proofs.owes_low.Tie as tie

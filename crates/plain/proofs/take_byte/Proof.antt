@@ -1,5 +1,4 @@
 -- `plain::take_byte` meets its contract.
--- Assumes nothing.
 use borrow.Author.Needs.{needs}
 use Rattle.plain.proofs.take_byte.Statement.{statement}
 use Rattle.plain.proofs.take_byte.Tie as tie

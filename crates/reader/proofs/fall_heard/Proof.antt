@@ -1,5 +1,4 @@
 -- `reader::fall_heard` meets its contract.
--- Assumes nothing.
 use borrow.Author.Needs.{needs}
 use Rattle.reader.proofs.fall_heard.Statement.{statement}
 use Rattle.reader.proofs.fall_heard.Tie as tie

@@ -1,5 +1,4 @@
 -- `reader::fall_place` meets its contract.
--- Assumes nothing.
 use borrow.Author.Needs.{needs}
 use Rattle.reader.proofs.fall_place.Statement.{statement}
 use Rattle.reader.proofs.fall_place.Tie as tie

@@ -1,5 +1,4 @@
 -- `reader::heard_at` meets its contract.
--- Assumes nothing.
 use borrow.Author.Needs.{needs}
 use Rattle.reader.proofs.heard_at.Statement.{statement}
 use Rattle.reader.proofs.heard_at.Tie as tie

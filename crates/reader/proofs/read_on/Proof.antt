@@ -1,5 +1,4 @@
 -- `reader::read_on` meets its contract.
--- Assumes nothing.
 use borrow.Author.Needs.{needs}
 use Rattle.reader.proofs.read_on.Statement.{statement}
 use Rattle.reader.proofs.read_on.Tie as tie

@@ -1,5 +1,4 @@
 -- `reader::rise_place` meets its contract.
--- Assumes nothing.
 use borrow.Author.Needs.{needs}
 use Rattle.reader.proofs.rise_place.Statement.{statement}
 use Rattle.reader.proofs.rise_place.Tie as tie

@@ -1,5 +1,4 @@
 -- `register_bytes::pack` meets its contract.
--- Assumes nothing.
 use borrow.Author.Needs.{needs}
 use Prim.Native.Nat.{_≤_}
 use native.Mathlib.Omega.{arith}

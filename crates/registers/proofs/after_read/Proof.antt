@@ -1,5 +1,4 @@
 -- `registers::after_read` meets its contract.
--- Assumes nothing.
 use borrow.Author.Needs.{needs}
 use Rattle.registers.proofs.after_read.Statement.{statement}
 use Rattle.registers.proofs.after_read.Tie as tie

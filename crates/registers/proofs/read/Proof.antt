@@ -1,5 +1,4 @@
 -- `registers::read` meets its contract.
--- Assumes nothing.
 use borrow.Author.Needs.{needs}
 use Rattle.registers.proofs.read.Statement.{statement}
 use Rattle.registers.proofs.read.Tie as tie

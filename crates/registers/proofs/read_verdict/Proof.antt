@@ -1,5 +1,4 @@
 -- `registers::read_verdict` meets its contract.
--- Assumes nothing.
 use borrow.Author.Needs.{needs}
 use Rattle.registers.proofs.read_verdict.Statement.{statement}
 use Rattle.registers.proofs.read_verdict.Tie as tie

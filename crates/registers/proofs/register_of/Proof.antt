@@ -1,5 +1,4 @@
 -- `registers::register_of` meets its contract.
--- Assumes nothing.
 use borrow.Author.Tests.{ne-eqb}
 use Rattle.registers.proofs.register_of.Statement.{statement}
 use Rattle.registers.proofs.register_of.Tie as tie

@@ -1,5 +1,4 @@
 -- `registers::value` meets its contract.
--- Assumes nothing.
 use borrow.Author.Needs.{needs}
 use Rattle.registers.proofs.value.Statement.{statement}
 use Rattle.registers.proofs.value.Tie as tie

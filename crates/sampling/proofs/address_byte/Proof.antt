@@ -1,5 +1,4 @@
 -- `sampling::address_byte` meets its contract.
--- Assumes nothing.
 use borrow.Author.Needs.{needs}
 use Rattle.sampling.proofs.address_byte.Statement.{statement}
 use Rattle.sampling.proofs.address_byte.Tie as tie

@@ -1,5 +1,4 @@
 -- `sampling::address_fall` meets its contract.
--- Assumes nothing.
 use borrow.Author.Needs.{needs}
 use Rattle.sampling.proofs.address_fall.Statement.{statement}
 use Rattle.sampling.proofs.address_fall.Tie as tie

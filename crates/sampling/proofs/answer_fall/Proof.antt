@@ -1,5 +1,4 @@
 -- `sampling::answer_fall` meets its contract.
--- Assumes nothing.
 use borrow.Author.Needs.{needs}
 use Rattle.sampling.proofs.answer_fall.Statement.{statement}
 use Rattle.sampling.proofs.answer_fall.Tie as tie

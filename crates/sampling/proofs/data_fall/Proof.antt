@@ -1,5 +1,4 @@
 -- `sampling::data_fall` meets its contract.
--- Assumes nothing.
 use borrow.Author.Needs.{needs}
 use Rattle.sampling.proofs.data_fall.Statement.{statement}
 use Rattle.sampling.proofs.data_fall.Tie as tie

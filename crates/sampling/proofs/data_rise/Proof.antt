@@ -1,5 +1,4 @@
 -- `sampling::data_rise` meets its contract.
--- Assumes nothing.
 use borrow.Author.Needs.{needs}
 use Rattle.sampling.proofs.data_rise.Statement.{statement}
 use Rattle.sampling.proofs.data_rise.Tie as tie

@@ -1,5 +1,4 @@
 -- `sampling::on_edge` meets its contract.
--- Assumes nothing.
 use borrow.Author.Needs.{needs}
 use Rattle.sampling.proofs.on_edge.Statement.{statement}
 use Rattle.sampling.proofs.on_edge.Tie as tie

@@ -1,5 +1,4 @@
 -- `sampling::on_fall` meets its contract: each arm knows its phase, and its callee says the rest.
--- Assumes nothing.
 use borrow.Author.Needs.{needs}
 use Rattle.sampling.proofs.on_fall.Statement.{statement}
 use Rattle.sampling.proofs.on_fall.Tie as tie

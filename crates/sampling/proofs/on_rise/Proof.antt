@@ -1,5 +1,4 @@
 -- `sampling::on_rise` meets its contract: each arm knows its phase.
--- Assumes nothing.
 use borrow.Author.Needs.{needs}
 use Rattle.sampling.proofs.on_rise.Statement.{statement}
 use Rattle.sampling.proofs.on_rise.Tie as tie

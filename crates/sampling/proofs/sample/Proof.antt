@@ -1,5 +1,4 @@
 -- `sampling::sample` meets its contract.
--- Assumes nothing.
 use borrow.Author.Needs.{needs}
 use Rattle.sampling.proofs.sample.Statement.{statement}
 use Rattle.sampling.proofs.sample.Tie as tie

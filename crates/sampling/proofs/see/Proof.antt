@@ -1,5 +1,4 @@
 -- `sampling::see` meets its contract.
--- Assumes nothing.
 use borrow.Author.Needs.{needs}
 use Rattle.sampling.proofs.see.Statement.{statement}
 use Rattle.sampling.proofs.see.Tie as tie

@@ -1,5 +1,4 @@
 -- `sampling::sending_fall` meets its contract.
--- Assumes nothing.
 use borrow.Author.Needs.{needs}
 use borrow.Author.Tests.{lt-ltb, le-ltb}
 use Rattle.sampling.proofs.sending_fall.Statement.{statement}

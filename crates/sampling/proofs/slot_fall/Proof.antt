@@ -1,5 +1,4 @@
 -- `sampling::slot_fall` meets its contract.
--- Assumes nothing.
 use borrow.Author.Needs.{needs}
 use Rattle.sampling.proofs.slot_fall.Statement.{statement}
 use Rattle.sampling.proofs.slot_fall.Tie as tie

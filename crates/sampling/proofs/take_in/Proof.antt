@@ -1,5 +1,4 @@
 -- `sampling::take_in` meets its contract.
--- Assumes nothing.
 use borrow.Author.Needs.{needs}
 use Rattle.sampling.proofs.take_in.Statement.{statement}
 use Rattle.sampling.proofs.take_in.Tie as tie

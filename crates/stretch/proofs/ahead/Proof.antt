@@ -1,5 +1,4 @@
 -- `stretch::ahead` meets its contract.
--- Assumes nothing.
 use borrow.Author.Needs.{needs}
 use Rattle.stretch.proofs.ahead.Statement.{statement}
 use Rattle.stretch.proofs.ahead.Tie as tie

@@ -1,5 +1,4 @@
 -- `stretch::bits_of` meets its contract.
--- Assumes nothing.
 use borrow.Author.Needs.{needs}
 use Rattle.stretch.proofs.bits_of.Statement.{statement}
 use Rattle.stretch.proofs.bits_of.Tie as tie

@@ -1,5 +1,4 @@
 -- `stretch::has_fall` meets its contract.
--- Assumes nothing.
 use borrow.Author.Needs.{needs}
 use Rattle.stretch.proofs.has_fall.Statement.{statement}
 use Rattle.stretch.proofs.has_fall.Tie as tie

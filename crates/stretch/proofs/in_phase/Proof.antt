@@ -1,5 +1,4 @@
 -- `stretch::in_phase` meets its contract.
--- Assumes nothing.
 use borrow.Author.Needs.{needs}
 use Rattle.stretch.proofs.in_phase.Statement.{statement}
 use Rattle.stretch.proofs.in_phase.Tie as tie

@@ -1,5 +1,4 @@
 -- `stretch::is_end` meets its contract.
--- Assumes nothing.
 use borrow.Author.Needs.{needs}
 use Rattle.stretch.specs.Laws.{scl-stays}
 use Rattle.stretch.proofs.is_end.Statement.{statement}

@@ -1,5 +1,4 @@
 -- `stretch::place_at` meets its contract.
--- Assumes nothing.
 use borrow.Author.Needs.{needs}
 use Rattle.stretch.proofs.place_at.Statement.{statement}
 use Rattle.stretch.proofs.place_at.Tie as tie

@@ -1,5 +1,4 @@
 -- `stretch::take_at` meets its contract.
--- Assumes nothing.
 use borrow.Author.Needs.{needs}
 use Rattle.stretch.proofs.take_at.Statement.{statement}
 use Rattle.stretch.proofs.take_at.Tie as tie

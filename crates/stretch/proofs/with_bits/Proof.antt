@@ -1,5 +1,4 @@
 -- `stretch::with_bits` meets its contract.
--- Assumes nothing.
 use borrow.Author.Needs.{needs}
 use Rattle.stretch.proofs.with_bits.Statement.{statement}
 use Rattle.stretch.proofs.with_bits.Tie as tie

@@ -1,5 +1,4 @@
 -- `text::put_decimal` meets its contract: a number's tenth part is written, then its last digit. The measure is the number.
--- Assumes nothing.
 use Prim.Native.Nat.{ℕ, _<_}
 use mathlib.Core.Path.{_∙_}
 use native.Mathlib.Omega.{arith}

@@ -1,5 +1,4 @@
 -- `text::hex_digit` meets its contract.
--- Assumes nothing.
 use borrow.Author.Needs.{needs}
 use borrow.Author.Tests.{lt-ltb, le-ltb}
 use Rattle.text.proofs.hex_digit.Statement.{statement}

@@ -1,5 +1,4 @@
 -- `text::put` meets its contract.
--- Assumes nothing.
 use borrow.Author.Needs.{needs}
 use Rattle.text.specs.Laws.{penned-byte, penned-past}
 use Rattle.text.proofs.put.Statement.{statement}

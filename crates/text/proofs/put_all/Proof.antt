@@ -1,5 +1,4 @@
 -- `text::put_all` meets its contract: the page is the one with the bytes passed so far.
--- Assumes nothing.
 use Prim.Native.Nat.{_+_, _-_, _≤_}
 use mathlib.Core.Path.{_≡_, refl, _∙_}
 use native.Mathlib.Omega.{arith}

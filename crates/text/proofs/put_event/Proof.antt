@@ -1,5 +1,4 @@
 -- `text::put_event` meets its contract: the line is that of the row of what was heard.
--- Assumes nothing.
 use borrow.Author.Needs.{needs}
 use mathlib.Core.Path.{refl}
 use Rattle.text.specs.Laws.{no-line, row-put, room-for-row}

@@ -1,5 +1,4 @@
 -- `text::put_numbered` meets its contract: the words, the number and the newline, one after another.
--- Assumes nothing.
 use borrow.Author.Needs.{needs}
 use native.Mathlib.Omega.{arith}
 use Rattle.text.specs.Laws.{penned-at, numbered-length, texts-3}

@@ -1,5 +1,4 @@
 -- `text::put_row` meets its contract: the item, the row, the pointer and the newline, one after another.
--- Assumes nothing.
 use borrow.Author.Needs.{needs}
 use native.Mathlib.Omega.{arith}
 use Rattle.text.specs.Laws.{penned-at, row-length, texts-4}

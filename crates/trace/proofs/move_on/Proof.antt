@@ -1,5 +1,4 @@
 -- `trace::move_on` meets its contract.
--- Assumes nothing.
 use borrow.Author.Needs.{needs}
 use Rattle.trace.proofs.move_on.Statement.{statement}
 use Rattle.trace.proofs.move_on.Tie as tie

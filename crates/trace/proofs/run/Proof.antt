@@ -1,5 +1,4 @@
 -- `trace::run` meets its contract: what is left of the items, run from the state and window so far, gives what the whole gives.
--- Assumes nothing.
 use borrow.Author.Needs.{needs}
 use Prim.Native.Nat.{_+_, _-_}
 use mathlib.Core.Path.{ap₂, _∙_}

@@ -1,5 +1,4 @@
 -- `trace::run_in` meets its contract.
--- Assumes nothing.
 use borrow.Author.Needs.{needs}
 use denote.Ref.{now}
 use borrow.Author.Tests.{not-false}

@@ -1,5 +1,4 @@
 -- `trace::run_part` meets its contract.
--- Assumes nothing.
 use borrow.Author.Needs.{needs}
 use denote.Ref.{now}
 use Rattle.trace.specs.Run.{runOf}

@@ -1,5 +1,4 @@
 -- `trace::sample` meets its contract.
--- Assumes nothing.
 use borrow.Author.Needs.{needs}
 use Rattle.trace.specs.Theorems.{one-sample}
 use Rattle.trace.proofs.sample.Statement.{statement}

@@ -1,5 +1,4 @@
 -- `trace::take_level` meets its contract.
--- Assumes nothing.
 use borrow.Author.Needs.{needs}
 use Rattle.trace.proofs.take_level.Statement.{statement}
 use Rattle.trace.proofs.take_level.Tie as tie

@@ -1,5 +1,4 @@
 -- `validity::address_begins` meets its contract.
--- Assumes nothing.
 use borrow.Author.Needs.{needs}
 use Rattle.validity.proofs.address_begins.Statement.{statement}
 use Rattle.validity.proofs.address_begins.Tie as tie

@@ -1,5 +1,4 @@
 -- `validity::bits_fit` meets its contract.
--- Assumes nothing.
 use borrow.Author.Needs.{needs}
 use borrow.Author.Tests.{le-leb, lt-leb}
 use Rattle.validity.specs.Laws.{shifted}

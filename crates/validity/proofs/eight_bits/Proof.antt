@@ -1,5 +1,4 @@
 -- `validity::eight_bits` meets its contract.
--- Assumes nothing.
 use borrow.Author.Needs.{needs}
 use Rattle.validity.proofs.eight_bits.Statement.{statement}
 use Rattle.validity.proofs.eight_bits.Tie as tie

@@ -1,5 +1,4 @@
 -- `validity::module_valid` meets its contract.
--- Assumes nothing.
 use borrow.Author.Needs.{needs}
 use Rattle.validity.proofs.module_valid.Statement.{statement}
 use Rattle.validity.proofs.module_valid.Tie as tie

@@ -1,5 +1,4 @@
 -- `validity::parts_fit` meets its contract.
--- Assumes nothing.
 use borrow.Author.Needs.{needs}
 use Rattle.validity.proofs.parts_fit.Statement.{statement}
 use Rattle.validity.proofs.parts_fit.Tie as tie

@@ -1,5 +1,4 @@
 -- `view::draw` meets its contract.
--- Assumes nothing.
 use borrow.Author.Needs.{needs}
 use Rattle.view.proofs.draw.Statement.{statement}
 use Rattle.view.proofs.draw.Tie as tie

@@ -1,5 +1,4 @@
 -- `wire::edge_of` meets its contract.
--- Assumes nothing.
 use borrow.Author.Needs.{needs}
 use Rattle.wire.proofs.edge_of.Statement.{statement}
 use Rattle.wire.proofs.edge_of.Tie as tie

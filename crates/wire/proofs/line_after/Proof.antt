@@ -1,5 +1,4 @@
 -- `wire::line_after` meets its contract.
--- Assumes nothing.
 use borrow.Author.Needs.{needs}
 use Rattle.wire.proofs.line_after.Statement.{statement}
 use Rattle.wire.proofs.line_after.Tie as tie

@@ -1,5 +1,4 @@
 -- `wire::push` meets its contract.
--- Assumes nothing.
 use borrow.Author.Needs.{needs}
 use native.Mathlib.Omega.{arith}
 use Rattle.wire.specs.Laws.{one}

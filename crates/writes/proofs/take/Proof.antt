@@ -1,5 +1,4 @@
 -- `writes::take` meets its contract.
--- Assumes nothing.
 use borrow.Author.Needs.{needs}
 use Rattle.writes.proofs.take.Statement.{statement}
 use Rattle.writes.proofs.take.Tie as tie

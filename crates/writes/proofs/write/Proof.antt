@@ -1,5 +1,4 @@
 -- `writes::write` meets its contract.
--- Assumes nothing.
 use borrow.Author.Needs.{needs}
 use Rattle.writes.proofs.write.Statement.{statement}
 use Rattle.writes.proofs.write.Tie as tie

@@ -1,5 +1,4 @@
 -- `writes::write_con1` meets its contract.
--- Assumes nothing.
 use borrow.Author.Needs.{needs}
 use borrow.Author.Tests.{ne-eqb}
 use Rattle.writes.proofs.write_con1.Statement.{statement}

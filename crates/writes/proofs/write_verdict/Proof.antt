@@ -1,5 +1,4 @@
 -- `writes::write_verdict` meets its contract.
--- Assumes nothing.
 use borrow.Author.Needs.{needs}
 use Rattle.writes.proofs.write_verdict.Statement.{statement}
 use Rattle.writes.proofs.write_verdict.Tie as tie

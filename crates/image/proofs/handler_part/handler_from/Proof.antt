@@ -1,5 +1,4 @@
 -- `image::handler_part::handler_from` meets its contract.
--- Assumes nothing.
 use borrow.Author.Needs.{needs}
 use Rattle.image.proofs.handler_part.handler_from.Statement.{statement}
 use Rattle.image.proofs.handler_part.handler_from.Tie as tie
