@@ -3,7 +3,7 @@
 use Prim.Native.Nat.{ℕ, zero, suc, _+_, _/_, _%_, _^_}
 use mathlib.Core.Bool.{Bool, true, false, _&&_, not}
 use mathlib.Core.List.{List, [], _∷_, _++_, map}
-use lib.Dec.{T, eqb}
+use lib.Dec.{eqb}
 use lib.ListN.{length, getD}
 use Rattle.mssp.specs.declared.Phase.{Phase}
 use Rattle.mssp.specs.declared.Phase.the-variants.{Quiet, Address, Data, HeldBefore, Slot, HeldForSending, Sending, MasterAcknowledge}
@@ -157,8 +157,3 @@ runCase c = c .test (afterAll (served (stateOf (setup 0x30) (handlerOf (length (
 abbrev pub passes : List Case → Bool
 passes [] = true
 passes (c ∷ cs) = runCase c && passes cs
-
--- THE BENCH: every row holds.
-pub bench : T (passes table)
-unfolding afterAll
-bench = tt

@@ -8,29 +8,19 @@ use Rattle.wire.specs.declared.Line.{Line}
 use Rattle.wire.specs.declared.Remembered.{Remembered}
 use Rattle.wire.specs.declared.Remembered.the-variants.{Nothing, Wire}
 use Rattle.wire.specs.Byte.{none}
-use Rattle.wire.specs.Wire.{edgeOf}
 use Rattle.reader.specs.declared.Ninth.{Ninth}
 use Rattle.reader.specs.declared.Place.{Place}
 use Rattle.reader.specs.declared.Place.the-variants.{Idle, Within, Ending}
-use Rattle.reader.specs.declared.Heard.{Heard}
-use Rattle.reader.specs.declared.Heard.the-variants.{Started}
 use Rattle.plain.specs.declared.Turn.{Turn}
 use Rattle.reader.specs.declared.Reader.{Reader}
-use Rattle.reader.specs.Reader.{readerOf, heardAt, readerAfter, readerAfresh}
+use Rattle.reader.specs.Reader.{readerOf, readerAfter, readerAfresh}
 use Rattle.reader.specs.Record.{Level, level, readOne, readAll}
 use Rattle.reader.specs.Laws.{read-joined}
 use Rattle.plain.specs.Device.{owes}
+use Rattle.cut.specs.Heard.{heardOf, StartAt, Unheard}
 
 abbrev line : Remembered → Bool → Line
 line seen mark = record { remembered = seen; mark = mark }
-
--- What the reader hears of a level.
-abbrev pub heardOf : Reader → Level → Heard
-heardOf r (level scl sda) = heardAt (r .place) (edgeOf (r .line) scl sda)
-
--- The reader hears a Start.
-abbrev pub StartAt : Reader → Level → Type 0
-StartAt r w = heardOf r w ≡ Started
 
 -- A marked reader has just begun a message, and SCL is still high.
 data Sound : Reader → Type 0 where
@@ -90,11 +80,6 @@ behind-meets true false (idle {z = Wire true true} unmarked) h = refl
 behind-meets true false (idle {z = Wire true true} marked) h = refl
 behind-meets true true (idle {z = Wire true false} s) h = cc
 behind-meets true false (idle {z = Wire true false} s) h = cc
-
--- No Start is heard in these levels.
-abbrev pub Unheard : Reader → List Level → Type 0
-Unheard r [] = Unit {0}
-Unheard r (w ∷ ws) = (StartAt r w → ⊥) × Unheard (readOne r w) ws
 
 meets :
     (xs : List Level) (w : Level) {q r : Reader} → Behind q r → Unheard q xs → StartAt (readAll q xs) w

@@ -33,7 +33,8 @@ use Rattle.steps.specs.declared.Item.{Item}
 use Rattle.steps.specs.declared.Item.the-variants.{Call}
 use Rattle.steps.specs.Step.{stepOf}
 use Rattle.trace.specs.Run.{firstBad, itemIf, itemAt, runOf}
-use Rattle.trace.specs.Theorems.{SameOutside, run-length, window-length, splice-outside}
+use Rattle.trace.specs.Window.{SameOutside}
+use Rattle.trace.specs.Theorems.{run-length, window-length, splice-outside}
 use Rattle.found.specs.declared.Found.{Found}
 use Rattle.found.specs.declared.Found.the-variants.{Part, Refused as NotFound}
 use Rattle.found.specs.Numbers.{refusalOf, itemOf, startOf, lengthOf}

@@ -21,7 +21,8 @@ use Rattle.firmware.specs.Laws.{inside}
 use Rattle.steps.specs.declared.Item.{Item}
 use Rattle.steps.specs.Step.{afterAll}
 use Rattle.trace.specs.Run.{firstBad, stepIf, stepOf, itemIf, itemAt, runFrom, runOf}
-use Rattle.trace.specs.Theorems.{run-joined, run-length, window-length, SameOutside, splice-outside}
+use Rattle.trace.specs.Window.{SameOutside}
+use Rattle.trace.specs.Theorems.{run-joined, run-length, window-length, splice-outside}
 use Rattle.agreement.specs.Joint.{Joint, run, afresh, SamplesAndCalls, ended, sample, call as call-more, Agrees}
 use Rattle.agreement.specs.Record.{joint-run-is-the-run}
 use Rattle.agreement.specs.Demand.{demand-three}
@@ -30,7 +31,8 @@ use Rattle.view.specs.View.{viewOf, noView}
 use Rattle.door.specs.declared.Answer.{Answer}
 use Rattle.door.specs.Door.{setupIf, doorSetup}
 use Rattle.door.specs.Outcome.{Outcome, outcome, byState, done}
-use Rattle.doorkept.specs.Image.{Image, setup-leaves}
+use Rattle.doorkept.specs.Left.{Image}
+use Rattle.doorkept.specs.Image.{setup-leaves}
 use Rattle.demands.specs.Calls.{DoorCall, setUp, readRegister, runTrace, Host, host, Reply, reply, answers, leftAfter, atDoor, hasWindow, inWindow, byDefinition, AllItems, Asks, a-run, a-sample, a-call, Feeds, nothing, one-more}
 use Rattle.demands.specs.Demands.{SetupRegisters, RunIsCalls, DemandThree}
 use Rattle.demands.specs.DemandTwo.{image-is, on-state, follows, imageHost, by-image, Follows}

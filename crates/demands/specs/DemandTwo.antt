@@ -39,7 +39,8 @@ use Rattle.door.specs.declared.Answer.{Answer}
 use Rattle.door.specs.Outcome.{Outcome, Lent, lent, refused, settled, noState, byState}
 use Rattle.door.specs.Door.{setupIf, doorSetup, accessed, levelVerdict, called, ran}
 use Rattle.door.specs.Theorems.{setup-keeps}
-use Rattle.doorkept.specs.Image.{Image, setup-leaves, stays, read-stays, write-stays, sample-stays, call-stays, run-stays}
+use Rattle.doorkept.specs.Left.{Image}
+use Rattle.doorkept.specs.Image.{setup-leaves, stays, read-stays, write-stays, sample-stays, call-stays, run-stays}
 use Rattle.demands.specs.Calls.{DoorCall, setUp, readRegister, writeRegister, feedSample, callHandler, runTrace, Host, host, Reply, reply, answers, leftAfter, atDoor, told, inWindow, madeOf, byDefinition, ImageOf, ImageOfNone}
 use Rattle.demands.specs.Demands.{DemandTwo}
 

@@ -9,7 +9,7 @@ use Rattle.firmware.specs.declared.State.{State}
 use Rattle.firmware.specs.Handler.{Served, served, stateOf, memoryIn, called}
 use Rattle.firmware.specs.Window.{windowOf, splice}
 use Rattle.trace.specs.Run.{itemAt}
-use Rattle.trace.specs.Theorems.{SameOutside}
+use Rattle.trace.specs.Window.{SameOutside}
 use Rattle.agreement.specs.Joint.{Joint, run, afresh, Agrees}
 use Rattle.image.specs.Image.{imageLength}
 use Rattle.view.specs.View.{viewOf}

@@ -1,6 +1,7 @@
 -- All that a call through the door decides (01, "Calls, refusals and their order"): the answer's numbers, the state's bytes,
 -- and, where memory is lent, the memory's.
-use Prim.Native.Nat.{ℕ}
+use Prim.Native.Nat.{ℕ, _<_}
+use mathlib.Core.Path.{_≡_}
 use mathlib.Core.List.{List}
 use Rattle.refusals.specs.declared.Refusal.{Refusal}
 use Rattle.refusals.specs.declared.Refusal.the-variants.{NoState}
@@ -50,3 +51,10 @@ noState bytes = outcome (refused NoState 0) bytes
 unfoldable pub byState : {A : Type 0} → Decoded → A → (State → A) → A
 byState NoImage none work = none
 byState (Valid s) none work = work s
+
+-- Refused, a call leaves the state's bytes, and the buffer's where one is lent.
+abbrev pub Keeps : List ℕ → Outcome → Type 0
+Keeps bytes o = 0 < o .answer .refusal → o .state ≡ bytes
+
+abbrev pub KeepsLent : List ℕ → List ℕ → Lent → Type 0
+KeepsLent bytes buffer o = 0 < o .outcome .answer .refusal → (o .outcome .state ≡ bytes) × (o .buffer ≡ buffer)

@@ -1,6 +1,6 @@
 -- What the door promises beside its contracts (01, "Calls, refusals and their order" and "What the contracts have to decide"):
 -- only one outcome fits each contract, and a refused call leaves the state's bytes and the buffer's.
-use Prim.Native.Nat.{ℕ, _<_}
+use Prim.Native.Nat.{ℕ}
 use mathlib.Core.Path.{_≡_, refl, sym, ap, _∙_}
 use mathlib.Core.Bool.{Bool, true, false}
 use mathlib.Core.List.{List}
@@ -24,7 +24,7 @@ use Rattle.image.specs.declared.Decoded.{Decoded}
 use Rattle.image.specs.declared.Decoded.the-variants.{Valid, NoImage}
 use Rattle.image.specs.Image.{imageLength, decodeOf}
 use Rattle.door.specs.declared.Answer.{Answer}
-use Rattle.door.specs.Outcome.{Outcome, outcome, Lent, lent, settled, noState, byState}
+use Rattle.door.specs.Outcome.{Outcome, outcome, Lent, lent, settled, noState, byState, Keeps, KeepsLent}
 use Rattle.door.specs.Door.{setupIf, doorSetup, accessed, doorRead, doorWrite, levelVerdict, doorSample, called, doorCall, ran, doorRun}
 
 -- ---- only one outcome fits: answers and bytes that meet one contract are the same
@@ -40,12 +40,6 @@ one-lent e f =
     (one .0, one .1, ap (λ (o : Lent). o .buffer) (e ∙ sym f))
 
 -- ---- refused, nothing changes
-abbrev pub Keeps : List ℕ → Outcome → Type 0
-Keeps bytes o = 0 < o .answer .refusal → o .state ≡ bytes
-
-abbrev pub KeepsLent : List ℕ → List ℕ → Lent → Type 0
-KeepsLent bytes buffer o = 0 < o .outcome .answer .refusal → (o .outcome .state ≡ bytes) × (o .buffer ≡ buffer)
-
 -- What holds where there is no state, and on every state that the bytes can be an image of.
 pub by-state :
     {A : Type 0} (P : A → Type 0) (d : Decoded) (none : A) (work : State → A) → P none

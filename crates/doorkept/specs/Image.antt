@@ -29,19 +29,16 @@ use Rattle.firmware.specs.Handler.{stateOf, setupOf}
 use Rattle.firmware.specs.Window.{windowFits, windowOf, callOf, choice}
 use Rattle.trace.specs.Run.{sampledBy}
 use Rattle.trace.specs.Window.{runInOf}
-use Rattle.runkept.specs.Kept.{ValidHandler, ValidState, setup-kept, called-kept, run-in-kept}
+use Rattle.runkept.specs.States.{ValidHandler, ValidState}
+use Rattle.runkept.specs.Kept.{setup-kept, called-kept, run-in-kept}
 use Rattle.image.specs.declared.Decoded.the-variants.{Valid}
 use Rattle.image.specs.HandlerPart.{handlerValid}
 use Rattle.image.specs.Image.{imageLength, validState, encodeOf, decodeOf}
 use Rattle.image.specs.Theorems.{decode-encode, decode-valid}
-use Rattle.door.specs.Outcome.{Outcome, outcome, answerOf, refused, lent, settled, noState, byState}
+use Rattle.door.specs.Outcome.{Outcome, outcome, answerOf, refused, lent, settled, noState, byState, Keeps}
 use Rattle.door.specs.Door.{setupIf, doorSetup, accessed, doorRead, doorWrite, levelVerdict, doorSample, called, doorCall, ran, doorRun}
-use Rattle.door.specs.Theorems.{Keeps, by-state, read-keeps, write-keeps, sample-keeps, call-keeps, run-keeps}
-
--- Bytes that are the image of a state.
-pub record Image (bytes : List ℕ) : Type 0 where
-  pub of : State
-  pub decodes : decodeOf bytes ≡ Valid of
+use Rattle.door.specs.Theorems.{by-state, read-keeps, write-keeps, sample-keeps, call-keeps, run-keeps}
+use Rattle.doorkept.specs.Left.{Image, Leaves}
 
 -- ---- a state by its clauses, and by the test that decoding makes
 handler-clauses : (h : Handler) → T (handlerValid h) → ValidHandler h
@@ -71,9 +68,6 @@ image-of : (s : State) → ValidState s → Image (encodeOf s)
 image-of s v = record { of = s; decodes = decode-encode s (state-test s v) }
 
 -- ---- an accepted call leaves an image
-abbrev pub Leaves : Outcome → Type 0
-Leaves o = o .answer .refusal ≡ 0 → Image (o .state)
-
 -- No cause has the number 0.
 refused-leaves : (why : Refusal) (item : ℕ) (bytes : List ℕ) → Leaves (outcome (refused why item) bytes)
 refused-leaves NoState item bytes e = absurd (omega arith)

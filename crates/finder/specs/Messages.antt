@@ -1,6 +1,6 @@
 -- The messages of a wire record (01, "The wire record and the message under the cursor"): which items are a Start or a
 -- Stop, where an item lies, and where its message ends. Items are numbered from 0; the edges are those of crate `wire`.
-use Prim.Native.Nat.{ℕ, zero, suc, _-_, _<_, _≤_}
+use Prim.Native.Nat.{ℕ, zero, suc, _-_, _<_, _≤_, _+_}
 use mathlib.Core.Path.{_≡_}
 use mathlib.Core.List.{List}
 use mathlib.Core.Logic.{_⊎_}
@@ -85,3 +85,25 @@ pub record IsMessage (levels : List ℕ) (start last : ℕ) : Type 0 where
   pub way : UnderWay levels start last
   pub within : last < length levels
   pub ends : (stopAt levels last ≡ true) ⊎ ((startAt levels (suc last) ≡ true) ⊎ (suc last ≡ length levels))
+
+-- Every level of the record is one of the four.
+abbrev pub Good : List ℕ → Type 0
+Good levels = (k : ℕ) → k < length levels → levelAt levels k ≤ 3
+
+-- The first item whose level is none of them.
+pub record FirstBad (levels : List ℕ) (item : ℕ) : Type 0 where
+  pub within : item < length levels
+  pub bad : 3 < levelAt levels item
+  pub good : (k : ℕ) → k < item → levelAt levels k ≤ 3
+
+-- The item lies in no message.
+abbrev pub Nowhere : List ℕ → ℕ → Type 0
+Nowhere levels item = (start last : ℕ) → IsMessage levels start last → start ≤ item → item ≤ last → ⊥
+
+-- The part is the message that the item lies in, all of it and no more.
+pub record TheMessage (levels : List ℕ) (item start count : ℕ) : Type 0 where
+  pub last : ℕ
+  pub size : start + count ≡ suc last
+  pub since : start ≤ item
+  pub upto : item ≤ last
+  pub message : IsMessage levels start last

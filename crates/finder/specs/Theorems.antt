@@ -16,33 +16,11 @@ use Rattle.refusals.specs.declared.Refusal.the-variants.{NoItem, PastRecord}
 use Rattle.finder.specs.declared.Place.{Place}
 use Rattle.finder.specs.declared.Place.the-variants.{Outside, Inside}
 use Rattle.found.specs.declared.Found.the-variants.{Part, Refused}
-use Rattle.finder.specs.Messages.{levelAt, placeAt, endAt, IsMessage}
+use Rattle.finder.specs.Messages.{levelAt, placeAt, endAt, IsMessage, Good, FirstBad, Nowhere, TheMessage}
 use Rattle.items.specs.First.{span}
 use Rattle.finder.specs.Find.{firstBad, partFrom, messagePart, spanOf}
 use Rattle.finder.specs.Extent.{outside-inside, whole-message, item-inside}
 use Rattle.finder.specs.Laws.{span-bad, span-past, span-part}
-
--- Every level of the record is one of the four.
-abbrev pub Good : List ℕ → Type 0
-Good levels = (k : ℕ) → k < length levels → levelAt levels k ≤ 3
-
--- The first item whose level is none of them.
-pub record FirstBad (levels : List ℕ) (item : ℕ) : Type 0 where
-  pub within : item < length levels
-  pub bad : 3 < levelAt levels item
-  pub good : (k : ℕ) → k < item → levelAt levels k ≤ 3
-
--- The item lies in no message.
-abbrev pub Nowhere : List ℕ → ℕ → Type 0
-Nowhere levels item = (start last : ℕ) → IsMessage levels start last → start ≤ item → item ≤ last → ⊥
-
--- The part is the message that the item lies in, all of it and no more.
-pub record TheMessage (levels : List ℕ) (item start count : ℕ) : Type 0 where
-  pub last : ℕ
-  pub size : start + count ≡ suc last
-  pub since : start ≤ item
-  pub upto : item ≤ last
-  pub message : IsMessage levels start last
 
 -- The three ways a call goes, each with its cause. One of the causes always holds, and no two hold together.
 pub data Call (levels : List ℕ) (item : ℕ) : Type 0 where

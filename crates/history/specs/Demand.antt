@@ -12,7 +12,8 @@ use Rattle.steps.specs.declared.Item.{Item}
 use Rattle.steps.specs.declared.Item.the-variants.{Sample, Call, Read, Write, Nothing}
 use Rattle.steps.specs.Step.{after, afterAll}
 use Rattle.trace.specs.Run.{itemAt}
-use Rattle.runkept.specs.Kept.{ValidState, called-kept}
+use Rattle.runkept.specs.States.{ValidState}
+use Rattle.runkept.specs.Kept.{called-kept}
 use Rattle.history.specs.History.{itemOf, historyOf}
 
 pub joined : (w : Served) (xs ys : List ℕ) → historyOf w (xs ++ ys) ≡ historyOf (historyOf w xs) ys

@@ -1,5 +1,5 @@
 -- A state stays a state, the module and the handler: after set-up, and after every handler call, item and run.
-use Prim.Native.Nat.{ℕ, _+_, _<_, _≤_}
+use Prim.Native.Nat.{ℕ, _+_, _<_}
 use mathlib.Core.Path.{_≡_, refl}
 use mathlib.Core.Bool.{Bool, true, false, true≢false, cond, _||_}
 use mathlib.Core.List.{List, [], _∷_}
@@ -17,24 +17,14 @@ use Rattle.registers.specs.declared.Register.the-variants.{Buf}
 use Rattle.kept.specs.Kept.{setup-valid, sample-kept, read-kept, write-kept, released-kept}
 use Rattle.memory.specs.Memory.{Memory, peeked, put}
 use Rattle.memory.specs.Laws.{positive, modulo-below}
-use Rattle.firmware.specs.declared.Handler.{Handler}
 use Rattle.firmware.specs.declared.State.{State}
 use Rattle.firmware.specs.declared.Made.the-variants.{Ready, Refused}
 use Rattle.firmware.specs.Handler.{handlerOf, stateOf, setupOf, memoryIn, acknowledged, serve, calledIf, called}
 use Rattle.firmware.specs.Window.{windowFits, windowOf}
 use Rattle.steps.specs.Step.{afterAll}
-use Rattle.trace.specs.Run.{firstBad, stepIf, stepOf, runFrom, runOf}
+use Rattle.trace.specs.Run.{firstBad, stepIf, stepOf, runOf}
 use Rattle.trace.specs.Window.{choice, runInOf}
-
--- The handler's clauses of a state (01, "A state is any setting of .."): n of 1 to 256, the pointer below it.
-pub record ValidHandler (h : Handler) : Type 0 where
-  pub some : 0 < h .n
-  pub most : h .n ≤ 256
-  pub inside : h .pointer < h .n
-
-pub record ValidState (s : State) : Type 0 where
-  pub mssp : Valid (s .mssp)
-  pub handler : ValidHandler (s .handler)
+use Rattle.runkept.specs.States.{ValidHandler, ValidState}
 
 -- ---- the module
 emptied-kept : (m : Module) → Valid m → Valid (emptied m)

@@ -16,8 +16,8 @@ use Rattle.firmware.specs.Handler.{Served, served, acknowledged, memoryIn, serv
 use Rattle.firmware.specs.Window.{windowFits, windowOf, splice}
 use Rattle.firmware.specs.Laws.{inside}
 use Rattle.steps.specs.Step.{afterAll}
-use Rattle.trace.specs.Run.{firstBad, sampledBy, stepIf, stepOf, runFrom, runOf}
-use Rattle.trace.specs.Window.{Outcome, choice, runInOf}
+use Rattle.trace.specs.Run.{firstBad, sampledBy, stepIf, stepOf, runOf}
+use Rattle.trace.specs.Window.{Outcome, choice, runInOf, SameOutside}
 
 -- ---- a run is its steps
 pub run-joined :
@@ -94,11 +94,6 @@ pub refused-untouched :
     accepted (r .verdict) ≡ false → (r .state ≡ s) × (r .buffer ≡ buffer)
 refused-untouched s buffer start n items h =
     refused-if (windowFits (length buffer) start n (s .handler .n)) (ltb (firstBad items) (length items)) s buffer start n items h
-
--- The bytes before a window and those behind it, the same in two buffers.
-pub record SameOutside (start n : ℕ) (before after : List ℕ) : Type 0 where
-  pub below : take start after ≡ take start before
-  pub above : drop (start + n) after ≡ drop (start + n) before
 
 pub splice-outside :
     (start n : ℕ) (bytes buffer : List ℕ) → start + n ≤ length buffer → length bytes ≡ n

@@ -1,9 +1,9 @@
 -- A run over a window of the caller's buffer, and its refusals (01, "Calls, refusals and their order"): 5 before 4.
-use Prim.Native.Nat.{ℕ}
+use Prim.Native.Nat.{ℕ, _+_}
 use mathlib.Core.Bool.{Bool, true, false}
 use mathlib.Core.List.{List}
 use lib.Dec.{ltb}
-use lib.ListN.{length}
+use lib.ListN.{length, take, drop}
 use Rattle.refusals.specs.declared.Refusal.the-variants.{NoWindow, NoItem}
 use Rattle.refusals.specs.declared.Verdict.{Verdict}
 use Rattle.refusals.specs.declared.Verdict.the-variants.{Done, Refused}
@@ -11,6 +11,7 @@ use Rattle.firmware.specs.declared.State.{State}
 use Rattle.firmware.specs.Handler.{Served}
 use Rattle.firmware.specs.Window.{windowFits, inBuffer}
 use Rattle.trace.specs.Run.{firstBad, runOf}
+use mathlib.Core.Path.{_≡_}
 
 abbrev pub ranIn : State → List ℕ → ℕ → ℕ → List ℕ → Served
 ranIn s buffer start n items = inBuffer (λ bytes. runOf s bytes items) buffer start n
@@ -38,3 +39,8 @@ choice true false s buffer start n items = ranOutcome (ranIn s buffer start n it
 abbrev pub runInOf : State → List ℕ → ℕ → ℕ → List ℕ → Outcome
 runInOf s buffer start n items =
     choice (windowFits (length buffer) start n (s .handler .n)) (ltb (firstBad items) (length items)) s buffer start n items
+
+-- The bytes before a window and those behind it, the same in two buffers.
+pub record SameOutside (start n : ℕ) (before after : List ℕ) : Type 0 where
+  pub below : take start after ≡ take start before
+  pub above : drop (start + n) after ≡ drop (start + n) before
