@@ -13,7 +13,7 @@ use Rattle.steps.specs.declared.Item.{Item}
 use Rattle.agreement.specs.Joint.{Joint, run, afresh, SamplesAndCalls, SameMemory, EndedByOneCall, PulledWhereOwed, HeldAfterAcknowledge, Agrees}
 use Rattle.course.specs.Course.{held-address, held-byte, held-load, runs, waits}
 use Rattle.course.specs.Following.{not-held, pulls-what-is-owed}
-use Rattle.agreement.specs.Serving.{in-step, owing-address, owing-byte, owing-load, Rel, related, run-kept, begins}
+use Rattle.agreement.specs.Serving.{in-step, owing-address, owing-byte, owing-load, Rel, related, joint-run-kept, begins}
 
 -- ---- both parts of the relation show what demand 3 says
 same-memory : {n add : ℕ} {j : Joint} → Rel n add j → SameMemory j
@@ -47,7 +47,7 @@ pub demand-three :
     (add : ℕ) (bytes : List ℕ) (items : List Item) → SamplesAndCalls items
     → Agrees add (run (length bytes) add (afresh add bytes) items)
 demand-three add bytes items p =
-    let k = run-kept (length bytes) add (afresh add bytes) items p (begins add bytes) in
+    let k = joint-run-kept (length bytes) add (afresh add bytes) items p (begins add bytes) in
     record {
       memories = same-memory k;
       once = ended-by-one-call k;

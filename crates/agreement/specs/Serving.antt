@@ -80,11 +80,11 @@ calls (related a (waits held-byte) (owing-byte {due = false})) = related a (runs
 calls (related a (waits (held-load {da = true})) owing-load) = related a (runs (sent-low {b = none} (lit< tt))) in-step
 calls (related a (waits (held-load {da = false})) owing-load) = related a (runs (sent-low {b = none} (lit< tt))) in-step
 
-pub run-kept :
+pub joint-run-kept :
     (n add : ℕ) (j : Joint) (items : List Item) → SamplesAndCalls items → Rel n add j → Rel n add (run n add j items)
-run-kept n add j [] ended h = h
-run-kept n add j (Sample l d ∷ items) (sample p) h = run-kept n add (step n add j (Sample l d)) items p (samples l d h)
-run-kept n add j (Call ∷ items) (call p) h = run-kept n add (step n add j Call) items p (calls h)
+joint-run-kept n add j [] ended h = h
+joint-run-kept n add j (Sample l d ∷ items) (sample p) h = joint-run-kept n add (step n add j (Sample l d)) items p (samples l d h)
+joint-run-kept n add j (Call ∷ items) (call p) h = joint-run-kept n add (step n add j Call) items p (calls h)
 
 pub begins : (add : ℕ) (bytes : List ℕ) → Rel (length bytes) add (afresh add bytes)
 begins add bytes = related (setup-answers add) (runs (apart idle)) in-step

@@ -218,12 +218,12 @@ pub data Feeds (start n : ℕ) : List DoorCall → List ℕ → Type 0 where
 
 -- ---- a firmware: register accesses and nothing else
 -- What a register shows; what a read and a write of it leave.
-abbrev pub shown : Verdict → ℕ
-shown (Done value) = value
-shown (Refused why) = 0
+abbrev pub valueShown : Verdict → ℕ
+valueShown (Done value) = value
+valueShown (Refused why) = 0
 
 abbrev pub shows : ℕ → Module → ℕ
-shows number m = shown (readOf m number .verdict)
+shows number m = valueShown (readOf m number .verdict)
 
 abbrev pub afterReading : ℕ → Module → Module
 afterReading number m = readOf m number .mssp

@@ -37,11 +37,11 @@ use Rattle.trace.specs.Window.{SameOutside}
 use Rattle.trace.specs.Theorems.{run-length, window-length, splice-outside}
 use Rattle.found.specs.declared.Found.{Found}
 use Rattle.found.specs.declared.Found.the-variants.{Part, Refused as NotFound}
-use Rattle.found.specs.Numbers.{refusalOf, itemOf, startOf, lengthOf}
+use Rattle.found.specs.Numbers.{refusalOf, badItemOf, startOf, lengthOf}
 use Rattle.finder.specs.declared.Place.{Place}
 use Rattle.finder.specs.declared.Place.the-variants.{Outside, Inside}
 use Rattle.finder.specs.Messages.{placeAt, endAt}
-use Rattle.finder.specs.Find.{firstBad as firstBadLevel, partFrom, spanIf, spanOf}
+use Rattle.finder.specs.Find.{firstBadLevel, partFrom, spanIf, spanOf}
 use Rattle.image.specs.declared.Decoded.the-variants.{NoImage}
 use Rattle.image.specs.Image.{imageLength, decodeOf}
 use Rattle.image.specs.Theorems.{encode-injective}
@@ -365,14 +365,14 @@ look-looks bytes =
 
 part-looks :
     {named : ℕ → Type 0} {list : List Cause} (place : Place) (item end : ℕ) → FirstOf named list 0 0
-    → FirstOf named list (refusalOf (partFrom place item end)) (itemOf (partFrom place item end))
+    → FirstOf named list (refusalOf (partFrom place item end)) (badItemOf (partFrom place item end))
 part-looks Outside item end first = first
 part-looks (Inside start) item end first = first
 
 find-looks :
     (levels : List ℕ) (item : ℕ) (bad in-it : Bool) → bad ≡ ltb (firstBadLevel levels) (length levels) → in-it ≡ ltb item (length levels)
     → let found : Found = spanIf bad in-it levels item in
-    FirstOf (FirstAbove 3 levels) (findCauses levels item) (refusalOf found) (itemOf found)
+    FirstOf (FirstAbove 3 levels) (findCauses levels item) (refusalOf found) (badItemOf found)
 find-looks levels item true in-it e f = above-looks 3 levels {refusal = 0} true e (λ no. absurd (true≢false no))
 find-looks levels item false false e f =
     above-looks 3 levels false e (λ no. here (ltb-false item (length levels) (sym f)) (no-item 7 (λ q. omega arith)))

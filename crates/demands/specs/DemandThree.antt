@@ -20,7 +20,7 @@ use Rattle.firmware.specs.Window.{windowOf, splice, inBuffer}
 use Rattle.firmware.specs.Laws.{inside}
 use Rattle.steps.specs.declared.Item.{Item}
 use Rattle.steps.specs.Step.{afterAll}
-use Rattle.trace.specs.Run.{firstBad, stepIf, stepOf, itemIf, itemAt, runFrom, runOf}
+use Rattle.trace.specs.Run.{firstBad, byteStepIf, byteStep, itemIf, itemAt, runFrom, runOf}
 use Rattle.trace.specs.Window.{SameOutside}
 use Rattle.trace.specs.Theorems.{run-joined, run-length, window-length, splice-outside}
 use Rattle.agreement.specs.Joint.{Joint, run, afresh, SamplesAndCalls, ended, sample, call as call-more, Agrees}
@@ -35,7 +35,7 @@ use Rattle.doorkept.specs.Left.{Image}
 use Rattle.doorkept.specs.Image.{setup-leaves}
 use Rattle.demands.specs.Calls.{DoorCall, setUp, readRegister, runTrace, Host, host, Reply, reply, answers, leftAfter, atDoor, hasWindow, inWindow, byDefinition, AllItems, Asks, a-run, a-sample, a-call, Feeds, nothing, one-more}
 use Rattle.demands.specs.Demands.{SetupRegisters, RunIsCalls, DemandThree}
-use Rattle.demands.specs.DemandTwo.{image-is, on-state, follows, imageHost, by-image, Follows}
+use Rattle.demands.specs.DemandTwo.{image-is, on-state, follows, imageHost, by-image, SameAsDefined}
 
 -- ---- setup
 -- The state that an accepted setup makes.
@@ -99,7 +99,7 @@ called-n false ckp s bytes = refl
 called-n true true s bytes = refl
 called-n true false s bytes = serve-n (s .mssp .live .rw) (s .mssp .live .da) (acknowledged s) bytes
 
-step-n : (level call : Bool) (s : State) (bytes : List ℕ) (item : ℕ) → stepIf level call s bytes item .state .handler .n ≡ s .handler .n
+step-n : (level call : Bool) (s : State) (bytes : List ℕ) (item : ℕ) → byteStepIf level call s bytes item .state .handler .n ≡ s .handler .n
 step-n true call s bytes item = refl
 step-n false true s bytes item = called-n (s .mssp .live .sspif) (s .mssp .live .ckp) s bytes
 step-n false false s bytes item = refl
@@ -107,7 +107,7 @@ step-n false false s bytes item = refl
 run-n : (s : State) (bytes items : List ℕ) → runOf s bytes items .state .handler .n ≡ s .handler .n
 unfolding afterAll
 run-n s bytes [] = refl
-run-n s bytes (x ∷ xs) = run-n (stepOf s bytes x .state) (stepOf s bytes x .bytes) xs ∙ step-n (ltb x 4) (eqb x 4) s bytes x
+run-n s bytes (x ∷ xs) = run-n (byteStep s bytes x .state) (byteStep s bytes x .bytes) xs ∙ step-n (ltb x 4) (eqb x 4) s bytes x
 
 -- Every item is one.
 none-bad : (items : List ℕ) → AllItems items → ltb (firstBad items) (length items) ≡ false
@@ -252,7 +252,7 @@ demand-three-at-door add start n h calls items long low high inside feeds good =
     all-fed : Fed start n begun calls items
     all-fed = fed start n feeds begun fitting good
 
-    all-follow : Follows begun calls
+    all-follow : SameAsDefined begun calls
     all-follow = follows begun calls (setup-valid (h .state) add n accepted)
 
     joint : Joint

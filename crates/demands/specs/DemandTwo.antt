@@ -24,11 +24,11 @@ use Rattle.firmware.specs.declared.State.{State}
 use Rattle.firmware.specs.declared.Made.{Made}
 use Rattle.firmware.specs.declared.Made.the-variants.{Ready, Refused as NotMade}
 use Rattle.firmware.specs.Handler.{Served, served, stateOf, setupOf}
-use Rattle.firmware.specs.Window.{windowFits, callOf, choice as callChoice}
+use Rattle.firmware.specs.Window.{windowFits, callOf, callChoice}
 use Rattle.steps.specs.declared.Item.the-variants.{Call}
 use Rattle.steps.specs.Step.{afterAll}
 use Rattle.trace.specs.Run.{firstBad, sampledBy, itemAt}
-use Rattle.trace.specs.Window.{runInOf, choice as runChoice}
+use Rattle.trace.specs.Window.{runInOf, runChoice}
 use Rattle.image.specs.declared.Decoded.{Decoded}
 use Rattle.image.specs.declared.Decoded.the-variants.{Valid, NoImage}
 use Rattle.image.specs.Image.{imageLength, validState, encodeOf, decodeOf}
@@ -37,7 +37,7 @@ use Rattle.image.specs.Theorems.{decode-encode, decode-exactly, encode-injectiv
 use Rattle.view.specs.View.{viewOf, noView}
 use Rattle.door.specs.declared.Answer.{Answer}
 use Rattle.door.specs.Outcome.{Outcome, Lent, lent, refused, settled, noState, byState}
-use Rattle.door.specs.Door.{setupIf, doorSetup, accessed, levelVerdict, called, ran}
+use Rattle.door.specs.Door.{setupIf, doorSetup, settledAccess, levelVerdict, settledCall, settledRun}
 use Rattle.door.specs.Theorems.{setup-keeps}
 use Rattle.doorkept.specs.Left.{Image}
 use Rattle.doorkept.specs.Image.{setup-leaves, stays, read-stays, write-stays, sample-stays, call-stays, run-stays}
@@ -106,14 +106,14 @@ module _ (w : Served) where
       (λ t. let h = ltb-false 3 level t in rw (t, lt-ltb level 4 (omega arith)))
 
   module _ (start n : ℕ) where
-    called-if : (fits : Bool) → lends (called bytes (callChoice s (w .bytes) start n fits)) ≡ imageReply (inWindow fits false 0 w start n (Call ∷ []))
+    called-if : (fits : Bool) → lends (settledCall bytes (callChoice s (w .bytes) start n fits)) ≡ imageReply (inWindow fits false 0 w start n (Call ∷ []))
     unfolding afterAll
     called-if true = refl
     called-if false = refl
 
     ran-if :
         (items : List ℕ) (fits bad : Bool)
-        → lends (ran bytes (runChoice fits bad s (w .bytes) start n items)) ≡ imageReply (inWindow fits bad (firstBad items) w start n (map itemAt items))
+        → lends (settledRun bytes (runChoice fits bad s (w .bytes) start n items)) ≡ imageReply (inWindow fits bad (firstBad items) w start n (map itemAt items))
     ran-if items false bad = refl
     ran-if items true true = refl
     ran-if items true false = refl
@@ -121,10 +121,10 @@ module _ (w : Served) where
   module _ (v : T (validState s)) where
     accesses :
         (work : Module → Access) → (accepted (work (s .mssp) .verdict) ≡ false → work (s .mssp) .mssp ≡ s .mssp)
-        → unlent (w .bytes) (byState (decodeOf bytes) (noState bytes) (accessed work bytes))
+        → unlent (w .bytes) (byState (decodeOf bytes) (noState bytes) (settledAccess work bytes))
         ≡ imageReply (reply (told (work (s .mssp) .verdict)) (served (stateOf (work (s .mssp) .mssp) (s .handler)) (w .bytes)))
     accesses work same =
-        ap (unlent (w .bytes)) (on-state (noState bytes) (accessed work bytes) s v)
+        ap (unlent (w .bytes)) (on-state (noState bytes) (settledAccess work bytes) s v)
         ∙ settles (work (s .mssp) .verdict) (stateOf (work (s .mssp) .mssp) (s .handler))
         (λ e. ap (λ (m : Module). stateOf m (s .handler)) (same e))
 
@@ -138,10 +138,10 @@ module _ (w : Served) where
         ap (unlent (w .bytes)) (on-state (noState bytes) (λ t. settled (levelVerdict level) 0 (sampledBy t level) bytes) s v)
         ∙ sampled level
     one-call (callHandler start n) =
-        ap lends (on-state (lent (noState bytes) (w .bytes)) (λ t. called bytes (callOf t (w .bytes) start n)) s v)
+        ap lends (on-state (lent (noState bytes) (w .bytes)) (λ t. settledCall bytes (callOf t (w .bytes) start n)) s v)
         ∙ called-if start n (windowFits (length (w .bytes)) start n (s .handler .n))
     one-call (runTrace start n items) =
-        ap lends (on-state (lent (noState bytes) (w .bytes)) (λ t. ran bytes (runInOf t (w .bytes) start n items)) s v)
+        ap lends (on-state (lent (noState bytes) (w .bytes)) (λ t. settledRun bytes (runInOf t (w .bytes) start n items)) s v)
         ∙ ran-if start n items (windowFits (length (w .bytes)) start n (s .handler .n)) (ltb (firstBad items) (length items))
 
 -- Bytes are no state's image, or that of one.
@@ -183,12 +183,12 @@ next-valid w c v =
     (image-stays (imageHost w) c (record { of = w .state; decodes = decode-encode (w .state) v })))
 
 -- ---- all the calls of a list
-pub record Follows (w : Served) (calls : List DoorCall) : Type 0 where
+pub record SameAsDefined (w : Served) (calls : List DoorCall) : Type 0 where
   pub valid : T (validState (leftAfter byDefinition w calls .state))
   pub answered : answers atDoor (imageHost w) calls ≡ answers byDefinition w calls
   pub left : leftAfter atDoor (imageHost w) calls ≡ imageHost (leftAfter byDefinition w calls)
 
-pub follows : (w : Served) (calls : List DoorCall) → T (validState (w .state)) → Follows w calls
+pub follows : (w : Served) (calls : List DoorCall) → T (validState (w .state)) → SameAsDefined w calls
 follows w [] v = record { valid = v; answered = refl; left = refl }
 follows w (c ∷ calls) v =
     let one = one-call w v c in

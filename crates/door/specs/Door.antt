@@ -15,11 +15,11 @@ use Rattle.firmware.specs.declared.State.{State}
 use Rattle.firmware.specs.declared.Made.{Made}
 use Rattle.firmware.specs.declared.Made.the-variants.{Ready, Refused as NotMade}
 use Rattle.firmware.specs.Handler.{stateOf, setupOf}
-use Rattle.firmware.specs.Window.{callOf, Outcome as CallOutcome}
+use Rattle.firmware.specs.Window.{callOf, CallOutcome}
 use Rattle.trace.specs.Run.{sampledBy}
-use Rattle.trace.specs.Window.{runInOf, Outcome as RunOutcome}
+use Rattle.trace.specs.Window.{runInOf, RunOutcome}
 use Rattle.found.specs.declared.Found.{Found}
-use Rattle.found.specs.Numbers.{refusalOf, itemOf, startOf, lengthOf}
+use Rattle.found.specs.Numbers.{refusalOf, badItemOf, startOf, lengthOf}
 use Rattle.finder.specs.Find.{spanOf}
 use Rattle.view.specs.declared.View.{View}
 use Rattle.view.specs.View.{viewOf, noView}
@@ -38,16 +38,16 @@ abbrev pub doorSetup : List ℕ → ℕ → ℕ → Outcome
 doorSetup bytes add n = setupIf (eqb (length bytes) imageLength) (setupOf add n) bytes
 
 -- ---- register access: only the module is reached
-abbrev pub accessed : (Module → Access) → List ℕ → State → Outcome
-accessed work bytes s =
+abbrev pub settledAccess : (Module → Access) → List ℕ → State → Outcome
+settledAccess work bytes s =
     let access : Access = work (s .mssp) in
     settled (access .verdict) 0 (stateOf (access .mssp) (s .handler)) bytes
 
 abbrev pub doorRead : List ℕ → ℕ → Outcome
-doorRead bytes number = byState (decodeOf bytes) (noState bytes) (accessed (λ m. readOf m number) bytes)
+doorRead bytes number = byState (decodeOf bytes) (noState bytes) (settledAccess (λ m. readOf m number) bytes)
 
 abbrev pub doorWrite : List ℕ → ℕ → ℕ → Outcome
-doorWrite bytes number value = byState (decodeOf bytes) (noState bytes) (accessed (λ m. writeOf m number value) bytes)
+doorWrite bytes number value = byState (decodeOf bytes) (noState bytes) (settledAccess (λ m. writeOf m number value) bytes)
 
 -- ---- a sample: a level is 0 to 3
 abbrev pub levelVerdict : ℕ → Verdict
@@ -58,28 +58,28 @@ doorSample bytes level =
     byState (decodeOf bytes) (noState bytes) (λ s. settled (levelVerdict level) 0 (sampledBy s level) bytes)
 
 -- ---- a handler call and a run, over a window of the buffer
-abbrev pub called : List ℕ → CallOutcome → Lent
-called bytes o = lent (settled (o .verdict) 0 (o .state) bytes) (o .buffer)
+abbrev pub settledCall : List ℕ → CallOutcome → Lent
+settledCall bytes o = lent (settled (o .verdict) 0 (o .state) bytes) (o .buffer)
 
 abbrev pub doorCall : List ℕ → List ℕ → ℕ → ℕ → Lent
 doorCall bytes buffer start n =
-    byState (decodeOf bytes) (lent (noState bytes) buffer) (λ s. called bytes (callOf s buffer start n))
+    byState (decodeOf bytes) (lent (noState bytes) buffer) (λ s. settledCall bytes (callOf s buffer start n))
 
-abbrev pub ran : List ℕ → RunOutcome → Lent
-ran bytes o = lent (settled (o .verdict) (o .item) (o .state) bytes) (o .buffer)
+abbrev pub settledRun : List ℕ → RunOutcome → Lent
+settledRun bytes o = lent (settled (o .verdict) (o .item) (o .state) bytes) (o .buffer)
 
 abbrev pub doorRun : List ℕ → List ℕ → ℕ → ℕ → List ℕ → Lent
 doorRun bytes buffer start n items =
-    byState (decodeOf bytes) (lent (noState bytes) buffer) (λ s. ran bytes (runInOf s buffer start n items))
+    byState (decodeOf bytes) (lent (noState bytes) buffer) (λ s. settledRun bytes (runInOf s buffer start n items))
 
 -- ---- what the scope draws: nothing changes
 abbrev pub doorLook : List ℕ → View
 doorLook bytes = byState (decodeOf bytes) noView viewOf
 
 -- ---- the message under the cursor: a refused call has the empty part at 0
-abbrev pub partOf : Found → Part
-partOf found =
-    record { refusal = refusalOf found; item = itemOf found; start = startOf found; length = lengthOf found }
+abbrev pub partAnswer : Found → Part
+partAnswer found =
+    record { refusal = refusalOf found; item = badItemOf found; start = startOf found; length = lengthOf found }
 
 abbrev pub doorFind : List ℕ → ℕ → Part
-doorFind levels item = partOf (spanOf levels item)
+doorFind levels item = partAnswer (spanOf levels item)

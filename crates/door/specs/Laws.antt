@@ -14,8 +14,8 @@ use Rattle.firmware.specs.declared.State.{State}
 use Rattle.firmware.specs.declared.Made.{Made}
 use Rattle.firmware.specs.declared.Made.the-variants.{Ready, Refused as NotMade}
 use Rattle.firmware.specs.Handler.{stateOf, setupOf}
-use Rattle.firmware.specs.Window.{Outcome as CallOutcome, outcome as callOutcome}
-use Rattle.trace.specs.Window.{Outcome as RunOutcome, outcome as runOutcome}
+use Rattle.firmware.specs.Window.{CallOutcome, callOutcome}
+use Rattle.trace.specs.Window.{RunOutcome, runOutcome}
 use Rattle.image.specs.declared.Decoded.{Decoded}
 use Rattle.image.specs.declared.Decoded.the-variants.{Valid, NoImage}
 use Rattle.image.specs.Image.{imageLength, decodeOf, saveOf}
@@ -23,7 +23,7 @@ use Rattle.image.specs.Laws.{encode-length}
 use Rattle.image.specs.Theorems.{decode-image}
 use Rattle.door.specs.declared.Answer.{Answer}
 use Rattle.door.specs.Outcome.{Outcome, outcome, lent, done, refused, settled, byState}
-use Rattle.door.specs.Door.{doorSetup, accessed, levelVerdict, called, ran}
+use Rattle.door.specs.Door.{doorSetup, settledAccess, levelVerdict, settledCall, settledRun}
 
 -- ---- what is settled
 module _ {verdict : Verdict} (item : ℕ) (next : State) (bytes : List ℕ) where
@@ -70,7 +70,7 @@ module _ (bytes : List ℕ) {d : Decoded} (decoded : d ≡ decodeOf bytes) where
 module _ (bytes : List ℕ) where
   pub access-settled :
       (work : Module → Access) (s : State) {access : Access} {o : Outcome} → access ≡ work (s .mssp)
-      → o ≡ settled (access .verdict) 0 (stateOf (access .mssp) (s .handler)) bytes → o ≡ accessed work bytes s
+      → o ≡ settled (access .verdict) 0 (stateOf (access .mssp) (s .handler)) bytes → o ≡ settledAccess work bytes s
   access-settled work s e f = f ∙ ap (λ (a : Access). settled (a .verdict) 0 (stateOf (a .mssp) (s .handler)) bytes) e
 
   pub level-refused :
@@ -86,10 +86,10 @@ module _ (bytes : List ℕ) where
   module _ {verdict : Verdict} {next : State} {buffer : List ℕ} {left : Outcome} where
     pub call-settled :
         {o : CallOutcome} → callOutcome verdict next buffer ≡ o → left ≡ settled verdict 0 next bytes
-        → lent left buffer ≡ called bytes o
-    call-settled e f = ap (λ (x : Outcome). lent x buffer) f ∙ ap (called bytes) e
+        → lent left buffer ≡ settledCall bytes o
+    call-settled e f = ap (λ (x : Outcome). lent x buffer) f ∙ ap (settledCall bytes) e
 
     pub run-settled :
         {item : ℕ} {o : RunOutcome} → runOutcome verdict item next buffer ≡ o → left ≡ settled verdict item next bytes
-        → lent left buffer ≡ ran bytes o
-    run-settled e f = ap (λ (x : Outcome). lent x buffer) f ∙ ap (ran bytes) e
+        → lent left buffer ≡ settledRun bytes o
+    run-settled e f = ap (λ (x : Outcome). lent x buffer) f ∙ ap (settledRun bytes) e

@@ -17,15 +17,15 @@ use Rattle.firmware.specs.declared.State.{State}
 use Rattle.firmware.specs.declared.Made.{Made}
 use Rattle.firmware.specs.declared.Made.the-variants.{Ready, Refused as NotMade}
 use Rattle.firmware.specs.Handler.{stateOf, setupOf}
-use Rattle.firmware.specs.Window.{windowFits, callOf, choice as callChoice}
+use Rattle.firmware.specs.Window.{windowFits, callOf, callChoice}
 use Rattle.trace.specs.Run.{firstBad, sampledBy}
-use Rattle.trace.specs.Window.{runInOf, choice as runChoice}
+use Rattle.trace.specs.Window.{runInOf, runChoice}
 use Rattle.image.specs.declared.Decoded.{Decoded}
 use Rattle.image.specs.declared.Decoded.the-variants.{Valid, NoImage}
 use Rattle.image.specs.Image.{imageLength, decodeOf}
 use Rattle.door.specs.declared.Answer.{Answer}
 use Rattle.door.specs.Outcome.{Outcome, outcome, Lent, lent, settled, noState, byState, Keeps, KeepsLent}
-use Rattle.door.specs.Door.{setupIf, doorSetup, accessed, doorRead, doorWrite, levelVerdict, doorSample, called, doorCall, ran, doorRun}
+use Rattle.door.specs.Door.{setupIf, doorSetup, settledAccess, doorRead, doorWrite, levelVerdict, doorSample, settledCall, doorCall, settledRun, doorRun}
 
 -- ---- only one outcome fits: answers and bytes that meet one contract are the same
 pub one-outcome :
@@ -59,13 +59,13 @@ setup-if true (Ready s) bytes h = absurd (omega arith)
 
 call-if :
     (bytes : List ℕ) (s : State) (buffer : List ℕ) (start n : ℕ) (fits : Bool)
-    → KeepsLent bytes buffer (called bytes (callChoice s buffer start n fits))
+    → KeepsLent bytes buffer (settledCall bytes (callChoice s buffer start n fits))
 call-if bytes s buffer start n true h = absurd (omega arith)
 call-if bytes s buffer start n false h = (refl, refl)
 
 run-if :
     (bytes : List ℕ) (fits bad : Bool) (s : State) (buffer : List ℕ) (start n : ℕ) (items : List ℕ)
-    → KeepsLent bytes buffer (ran bytes (runChoice fits bad s buffer start n items))
+    → KeepsLent bytes buffer (settledRun bytes (runChoice fits bad s buffer start n items))
 run-if bytes false bad s buffer start n items h = (refl, refl)
 run-if bytes true true s buffer start n items h = (refl, refl)
 run-if bytes true false s buffer start n items h = absurd (omega arith)
@@ -74,9 +74,9 @@ pub setup-keeps : (bytes : List ℕ) (add n : ℕ) → Keeps bytes (doorSetup by
 setup-keeps bytes add n = setup-if (eqb (length bytes) imageLength) (setupOf add n) bytes
 
 module _ (bytes : List ℕ) where
-  access-keeps : (work : Module → Access) → Keeps bytes (byState (decodeOf bytes) (noState bytes) (accessed work bytes))
+  access-keeps : (work : Module → Access) → Keeps bytes (byState (decodeOf bytes) (noState bytes) (settledAccess work bytes))
   access-keeps work =
-      by-state (Keeps bytes) (decodeOf bytes) (noState bytes) (accessed work bytes) (λ h. refl)
+      by-state (Keeps bytes) (decodeOf bytes) (noState bytes) (settledAccess work bytes) (λ h. refl)
       (λ s e. settled-keeps (work (s .mssp) .verdict) 0 (stateOf (work (s .mssp) .mssp) (s .handler)) bytes)
 
   pub read-keeps : (number : ℕ) → Keeps bytes (doorRead bytes number)
@@ -94,11 +94,11 @@ module _ (bytes : List ℕ) where
     pub call-keeps : KeepsLent bytes buffer (doorCall bytes buffer start n)
     call-keeps =
         by-state (KeepsLent bytes buffer) (decodeOf bytes) (lent (noState bytes) buffer)
-        (λ s. called bytes (callOf s buffer start n)) (λ h. (refl, refl))
+        (λ s. settledCall bytes (callOf s buffer start n)) (λ h. (refl, refl))
         (λ s e. call-if bytes s buffer start n (windowFits (length buffer) start n (s .handler .n)))
 
     pub run-keeps : (items : List ℕ) → KeepsLent bytes buffer (doorRun bytes buffer start n items)
     run-keeps items =
         by-state (KeepsLent bytes buffer) (decodeOf bytes) (lent (noState bytes) buffer)
-        (λ s. ran bytes (runInOf s buffer start n items)) (λ h. (refl, refl))
+        (λ s. settledRun bytes (runInOf s buffer start n items)) (λ h. (refl, refl))
         (λ s e. run-if bytes (windowFits (length buffer) start n (s .handler .n)) (ltb (firstBad items) (length items)) s buffer start n items)

@@ -26,7 +26,7 @@ use Rattle.firmware.specs.declared.State.{State}
 use Rattle.firmware.specs.declared.Made.{Made}
 use Rattle.firmware.specs.declared.Made.the-variants.{Ready, Refused as NotMade}
 use Rattle.firmware.specs.Handler.{stateOf, setupOf}
-use Rattle.firmware.specs.Window.{windowFits, windowOf, callOf, choice}
+use Rattle.firmware.specs.Window.{windowFits, windowOf, callOf, callChoice}
 use Rattle.trace.specs.Run.{sampledBy}
 use Rattle.trace.specs.Window.{runInOf}
 use Rattle.runkept.specs.States.{ValidHandler, ValidState}
@@ -36,7 +36,7 @@ use Rattle.image.specs.HandlerPart.{handlerValid}
 use Rattle.image.specs.Image.{imageLength, validState, encodeOf, decodeOf}
 use Rattle.image.specs.Theorems.{decode-encode, decode-valid}
 use Rattle.door.specs.Outcome.{Outcome, outcome, answerOf, refused, lent, settled, noState, byState, Keeps}
-use Rattle.door.specs.Door.{setupIf, doorSetup, accessed, doorRead, doorWrite, levelVerdict, doorSample, called, doorCall, ran, doorRun}
+use Rattle.door.specs.Door.{setupIf, doorSetup, settledAccess, doorRead, doorWrite, levelVerdict, doorSample, settledCall, doorCall, settledRun, doorRun}
 use Rattle.door.specs.Theorems.{by-state, read-keeps, write-keeps, sample-keeps, call-keeps, run-keeps}
 use Rattle.doorkept.specs.Left.{Image, Leaves}
 
@@ -95,7 +95,7 @@ setup-if true (Ready s) bytes good = λ e. image-of s (good s refl)
 
 call-if :
     (s : State) (buffer : List ℕ) (start n : ℕ) (fits : Bool) → ValidState s
-    → ValidState (choice s buffer start n fits .state)
+    → ValidState (callChoice s buffer start n fits .state)
 call-if s buffer start n true v = called-kept s (windowOf start n buffer) v
 call-if s buffer start n false v = v
 
@@ -109,9 +109,9 @@ module _ (bytes : List ℕ) where
 
   access-leaves :
       (work : Module → Access) → ((m : Module) → ValidModule m → ValidModule (work m .mssp))
-      → Leaves (byState (decodeOf bytes) (noState bytes) (accessed work bytes))
+      → Leaves (byState (decodeOf bytes) (noState bytes) (settledAccess work bytes))
   access-leaves work keeps =
-      by-state Leaves (decodeOf bytes) (noState bytes) (accessed work bytes) (none-leaves bytes)
+      by-state Leaves (decodeOf bytes) (noState bytes) (settledAccess work bytes) (none-leaves bytes)
       (λ s e.
       let v = given s e in
       settled-leaves (work (s .mssp) .verdict) 0 (stateOf (work (s .mssp) .mssp) (s .handler)) bytes
@@ -136,7 +136,7 @@ module _ (bytes : List ℕ) where
     pub call-leaves : Leaves (doorCall bytes buffer start n .outcome)
     call-leaves =
         by-state (λ o. Leaves (o .outcome)) (decodeOf bytes) (lent (noState bytes) buffer)
-        (λ s. called bytes (callOf s buffer start n)) (none-leaves bytes)
+        (λ s. settledCall bytes (callOf s buffer start n)) (none-leaves bytes)
         (λ s e.
         let o = callOf s buffer start n in
         settled-leaves (o .verdict) 0 (o .state) bytes
@@ -145,12 +145,12 @@ module _ (bytes : List ℕ) where
     pub run-leaves : (items : List ℕ) → Leaves (doorRun bytes buffer start n items .outcome)
     run-leaves items =
         by-state (λ o. Leaves (o .outcome)) (decodeOf bytes) (lent (noState bytes) buffer)
-        (λ s. ran bytes (runInOf s buffer start n items)) (none-leaves bytes)
+        (λ s. settledRun bytes (runInOf s buffer start n items)) (none-leaves bytes)
         (λ s e.
         let o = runInOf s buffer start n items in
         settled-leaves (o .verdict) (o .item) (o .state) bytes (run-in-kept s buffer start n items (given s e)))
 
--- ---- an image stays an image, whatever is called
+-- ---- an image stays an image, whatever is settledCall
 stays-if :
     (refusal value item : ℕ) {bytes left : List ℕ} → Keeps bytes (outcome (answerOf refusal value item) left)
     → Leaves (outcome (answerOf refusal value item) left) → Image bytes → Image left

@@ -5,7 +5,7 @@ use mathlib.Core.Bool.{Bool, true, _&&_}
 use mathlib.Core.List.{List, [], _∷_}
 use Rattle.finder.specs.Messages.{lineBefore, edgeAt, placeAt, endFrom}
 use Rattle.items.specs.First.{span}
-use Rattle.found.specs.Numbers.{refusalOf, itemOf, startOf, lengthOf}
+use Rattle.found.specs.Numbers.{refusalOf, badItemOf, startOf, lengthOf}
 use Rattle.finder.specs.Find.{spanOf}
 
 -- A record, an item, and the answer's four numbers: refusal, bad item, start, length.
@@ -15,7 +15,7 @@ Case = List ℕ × ℕ × ℕ × ℕ × ℕ × ℕ
 abbrev holds : Case → Bool
 holds k =
     let found = spanOf (k .0) (k .1) in
-    eqb (refusalOf found) (k .2) && (eqb (itemOf found) (k .3) && (eqb (startOf found) (k .4) && eqb (lengthOf found) (k .5)))
+    eqb (refusalOf found) (k .2) && (eqb (badItemOf found) (k .3) && (eqb (startOf found) (k .4) && eqb (lengthOf found) (k .5)))
 
 abbrev allHold : List Case → Bool
 allHold [] = true

@@ -15,8 +15,8 @@ use Rattle.found.specs.Numbers.{startOf, lengthOf}
 use Rattle.finder.specs.Messages.{placeAt, endAt}
 
 -- The number of the first level above 3; the record's length where there is none.
-abbrev pub firstBad : List ℕ → ℕ
-firstBad levels = firstAbove 3 levels
+abbrev pub firstBadLevel : List ℕ → ℕ
+firstBadLevel levels = firstAbove 3 levels
 
 -- From its Start up to its end; in no message, an empty part at the item itself.
 abbrev pub partFrom : Place → ℕ → ℕ → Found
@@ -28,12 +28,12 @@ messagePart levels item = partFrom (placeAt levels item) item (endAt levels item
 
 -- Refusal 4 with the first bad item's number, then 7, else the part. The tests: a level is bad, the item is in the record.
 abbrev pub spanIf : Bool → Bool → List ℕ → ℕ → Found
-spanIf true inside levels item = Refused NoItem (firstBad levels)
+spanIf true inside levels item = Refused NoItem (firstBadLevel levels)
 spanIf false false levels item = Refused PastRecord 0
 spanIf false true levels item = messagePart levels item
 
 unfoldable pub spanOf : List ℕ → ℕ → Found
-spanOf levels item = spanIf (ltb (firstBad levels) (length levels)) (ltb item (length levels)) levels item
+spanOf levels item = spanIf (ltb (firstBadLevel levels) (length levels)) (ltb item (length levels)) levels item
 
 -- The items of the part.
 abbrev pub partOf : List ℕ → Found → List ℕ

@@ -19,7 +19,7 @@ use Rattle.found.specs.declared.Found.the-variants.{Part, Refused}
 use Rattle.finder.specs.Messages.{levelAt, lineBefore, edgeAt, isStop, startAt, stopBefore, pastEnd, placeAt, endFrom, endAt}
 use Rattle.finder.specs.Reader.{unread, readOn, readingBefore}
 use Rattle.found.specs.Numbers.{startOf, lengthOf}
-use Rattle.finder.specs.Find.{firstBad, partFrom, messagePart, spanIf, spanOf, partOf, partPlace}
+use Rattle.finder.specs.Find.{firstBadLevel, partFrom, messagePart, spanIf, spanOf, partOf, partPlace}
 use Rattle.finder.specs.Extent.{whole-message}
 
 -- The reading after an item is the one before the next.
@@ -94,7 +94,7 @@ module _ (levels : List ℕ) (item : ℕ) {reading : Reading} (read : reading �
         omega arith
 
 -- The three ways through a call.
-module _ (levels : List ℕ) (item : ℕ) {bad : ℕ} (first : bad ≡ firstBad levels) where
+module _ (levels : List ℕ) (item : ℕ) {bad : ℕ} (first : bad ≡ firstBadLevel levels) where
   pub span-bad : bad < length levels → Refused NoItem bad ≡ spanOf levels item
   unfolding spanOf
   span-bad h = rw (← first, lt-ltb bad (length levels) h) (ap (Refused NoItem) first)
@@ -127,7 +127,7 @@ module _ (levels : List ℕ) (item : ℕ) {found : Found} {start count : ℕ} (e
     (s : start ≡ startOf found) (n : count ≡ lengthOf found) where
   pub span-within : start + count ≤ length levels
   unfolding spanOf
-  span-within = rw (s, n, e) (if-within levels item (ltb (firstBad levels) (length levels)) (ltb item (length levels)) refl)
+  span-within = rw (s, n, e) (if-within levels item (ltb (firstBadLevel levels) (length levels)) (ltb item (length levels)) refl)
 
   pub part-taken : take (start + count - start) (drop start levels) ≡ partOf levels (spanOf levels item)
   part-taken = let k : start + count - start ≡ count = omega arith in rw (k, s, n, e)

@@ -18,7 +18,7 @@ use Rattle.finder.specs.declared.Place.the-variants.{Outside, Inside}
 use Rattle.found.specs.declared.Found.the-variants.{Part, Refused}
 use Rattle.finder.specs.Messages.{levelAt, placeAt, endAt, IsMessage, Good, FirstBad, Nowhere, TheMessage}
 use Rattle.items.specs.First.{span}
-use Rattle.finder.specs.Find.{firstBad, partFrom, messagePart, spanOf}
+use Rattle.finder.specs.Find.{firstBadLevel, partFrom, messagePart, spanOf}
 use Rattle.finder.specs.Extent.{outside-inside, whole-message, item-inside}
 use Rattle.finder.specs.Laws.{span-bad, span-past, span-part}
 
@@ -31,7 +31,7 @@ pub data Call (levels : List ℕ) (item : ℕ) : Type 0 where
 not-good : {levels : List ℕ} {bad : ℕ} → FirstBad levels bad → Good levels → ⊥
 not-good {bad = bad} f g = let b = f .bad in let h = g bad (f .within) in omega arith
 
--- `firstBad` counts the items before the first bad one, or all.
+-- `firstBadLevel` counts the items before the first bad one, or all.
 Counted : List ℕ → ℕ → Type 0
 Counted levels n = FirstBad levels n ⊎ ((n ≡ length levels) × Good levels)
 
@@ -51,20 +51,20 @@ count-step level levels n true e (inr (s, g)) = inr (ap suc s, all)
 count-step level levels n false e c =
     inl (record { within = omega arith; bad = leb-false level 3 e; good = λ k h. absurd (omega arith) })
 
-counted : (levels : List ℕ) → Counted levels (firstBad levels)
+counted : (levels : List ℕ) → Counted levels (firstBadLevel levels)
 unfolding Counted span
 counted [] = inr (refl, λ k h. absurd (omega arith))
-counted (level ∷ levels) = count-step level levels (firstBad levels) (leb level 3) refl (counted levels)
+counted (level ∷ levels) = count-step level levels (firstBadLevel levels) (leb level 3) refl (counted levels)
 
-good-call : (levels : List ℕ) (item : ℕ) → firstBad levels ≡ length levels → Good levels → Dec (item < length levels) → Call levels item
+good-call : (levels : List ℕ) (item : ℕ) → firstBadLevel levels ≡ length levels → Good levels → Dec (item < length levels) → Call levels item
 good-call levels item e g (yes h) = given g h (sym (span-part levels item refl (omega arith) h))
 good-call levels item e g (no h) = seven g (omega arith) (sym (span-past levels item refl (omega arith) (omega arith)))
 
 pub call : (levels : List ℕ) (item : ℕ) → Call levels item
 unfolding Counted
 call levels item =
-    ⊎-elim (λ (f : FirstBad levels (firstBad levels)). four (firstBad levels) f (sym (span-bad levels item refl (f .within))))
-    (λ (g : (firstBad levels ≡ length levels) × Good levels). good-call levels item (g .0) (g .1) (decLt item (length levels)))
+    ⊎-elim (λ (f : FirstBad levels (firstBadLevel levels)). four (firstBadLevel levels) f (sym (span-bad levels item refl (f .within))))
+    (λ (g : (firstBadLevel levels ≡ length levels) × Good levels). good-call levels item (g .0) (g .1) (decLt item (length levels)))
     (counted levels)
 
 -- A message's part is no refusal.

@@ -32,18 +32,18 @@ abbrev pub calledIn : State → List ℕ → ℕ → ℕ → Served
 calledIn s buffer start n = inBuffer (called s) buffer start n
 
 -- All that a call decides.
-pub record Outcome : Type 0 where
+pub record CallOutcome : Type 0 where
   pub verdict : Verdict
   pub state : State
   pub buffer : List ℕ
 
-abbrev pub outcome : Verdict → State → List ℕ → Outcome
-outcome verdict s buffer = record { verdict = verdict; state = s; buffer = buffer }
+abbrev pub callOutcome : Verdict → State → List ℕ → CallOutcome
+callOutcome verdict s buffer = record { verdict = verdict; state = s; buffer = buffer }
 
 -- A window that does not fit is refused; state and buffer stay.
-abbrev pub choice : State → List ℕ → ℕ → ℕ → Bool → Outcome
-choice s buffer start n true = outcome (Done 0) (calledIn s buffer start n .state) (calledIn s buffer start n .bytes)
-choice s buffer start n false = outcome (Refused NoWindow) s buffer
+abbrev pub callChoice : State → List ℕ → ℕ → ℕ → Bool → CallOutcome
+callChoice s buffer start n true = callOutcome (Done 0) (calledIn s buffer start n .state) (calledIn s buffer start n .bytes)
+callChoice s buffer start n false = callOutcome (Refused NoWindow) s buffer
 
-abbrev pub callOf : State → List ℕ → ℕ → ℕ → Outcome
-callOf s buffer start n = choice s buffer start n (windowFits (length buffer) start n (s .handler .n))
+abbrev pub callOf : State → List ℕ → ℕ → ℕ → CallOutcome
+callOf s buffer start n = callChoice s buffer start n (windowFits (length buffer) start n (s .handler .n))

@@ -9,9 +9,9 @@ abbrev pub refusalOf : Found → ℕ
 refusalOf (Part start count) = 0
 refusalOf (Refused why item) = numberOf why
 
-abbrev pub itemOf : Found → ℕ
-itemOf (Part start count) = 0
-itemOf (Refused why item) = item
+abbrev pub badItemOf : Found → ℕ
+badItemOf (Part start count) = 0
+badItemOf (Refused why item) = item
 
 abbrev pub startOf : Found → ℕ
 startOf (Part start count) = start

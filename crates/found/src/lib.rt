@@ -1,6 +1,6 @@
 // What a search for a message answers, and the numbers that stand for it at the door.
 ghost use mathlib.Core.Path.{_≡_};
-ghost use Rattle.found.specs.Numbers.{refusalOf, itemOf, startOf, lengthOf};
+ghost use Rattle.found.specs.Numbers.{refusalOf, badItemOf, startOf, lengthOf};
 use refusals::Refusal;
 
 // The answer: a part's start and length, or why there is none and the item beside the refusal.
@@ -21,7 +21,7 @@ pub fn refusal_number(found: Found) -> u8
 
 // The item's number beside a refusal, else 0.
 pub fn bad_item(found: Found) -> u64
-    ensures { λ r. ⌜ r ≡ itemOf found ⌝ }
+    ensures { λ r. ⌜ r ≡ badItemOf found ⌝ }
 {
     match found {
         Found::Part(_, _) => 0,

@@ -16,17 +16,17 @@ use Rattle.runkept.specs.States.{ValidState}
 use Rattle.runkept.specs.Kept.{called-kept}
 use Rattle.history.specs.History.{itemOf, historyOf}
 
-pub joined : (w : Served) (xs ys : List ℕ) → historyOf w (xs ++ ys) ≡ historyOf (historyOf w xs) ys
+pub history-joined : (w : Served) (xs ys : List ℕ) → historyOf w (xs ++ ys) ≡ historyOf (historyOf w xs) ys
 unfolding afterAll
-joined w [] ys = refl
-joined w (x ∷ xs) ys = joined (after w (itemOf x)) xs ys
+history-joined w [] ys = refl
+history-joined w (x ∷ xs) ys = history-joined (after w (itemOf x)) xs ys
 
 -- What the history leaves after item k is that item's step on what it left before: no item is passed over, at any place.
-pub after-each :
+pub after-each-number :
     (w : Served) (items : List ℕ) (k : ℕ) → k < length items
     → historyOf w (take (suc k) items) ≡ after (historyOf w (take k items)) (itemOf (getD items k 0))
 unfolding afterAll
-after-each w items k h = rw (take-suc items k 0) (joined w (take k items) (getD items k 0 ∷ []))
+after-each-number w items k h = rw (take-suc items k 0) (history-joined w (take k items) (getD items k 0 ∷ []))
 
 -- A trace is a history: a byte is the same item in both.
 pub byte-item : (byte : ℕ) → byte < 65536 → itemOf byte ≡ itemAt byte

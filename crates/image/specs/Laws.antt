@@ -40,13 +40,13 @@ encode-length s = refl
 
 -- ---- what the code's steps come to
 -- The parts copied one after the other over zeros.
-pub joined :
+pub parts-joined :
     (s : State) {first second once twice : List ℕ} → first ≡ modulePart (s .mssp) → second ≡ handlerPart (s .handler)
     → once ≡ take (length first) first ++ drop (length first) (replicate imageLength 0)
     → twice ≡ take (length second) second ++ drop (length second) (take (imageLength - moduleLength) (drop moduleLength once))
     → take moduleLength once ++ (twice ++ drop (imageLength - moduleLength) (drop moduleLength once)) ≡ encodeOf s
 unfolding encodeOf
-joined s e f g h = simp (h, g, f, e)
+parts-joined s e f g h = simp (h, g, f, e)
 
 -- The handler's part is read off what follows the module's.
 pub parsed :

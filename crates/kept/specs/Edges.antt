@@ -169,14 +169,14 @@ no-rise false false true = refl
 no-rise false false false = refl
 
 -- Parts and hold, S and P, after any edge that can come.
-pub record Stepped (c : Config) (n : Moved) : Type 0 where
+pub record KeptByEdge (c : Config) (n : Moved) : Type 0 where
   pub parts : T (partsFit (n .phase))
   pub hold : T (holdFits (n .phase) (n .live .ckp))
   pub condition : T (oneCondition (n .live))
 
 pub edge-stepped :
     (c : Config) (l : Live) (ph : Phase) (e : Edge) → T (partsFit ph) → T (holdFits ph (l .ckp)) → T (oneCondition l)
-    → T (not (isRise e) || not (eightBits ph)) → Stepped c (edgeStep c l ph e)
+    → T (not (isRise e) || not (eightBits ph)) → KeptByEdge c (edgeStep c l ph e)
 edge-stepped c l ph Still h k o r = record { parts = h; hold = k; condition = o }
 edge-stepped c l ph Start h k o r = record { parts = tt; hold = tt; condition = tt }
 edge-stepped c l ph Stop h k o r = record { parts = tt; hold = tt; condition = tt }

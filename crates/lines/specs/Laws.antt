@@ -18,7 +18,7 @@ use Rattle.input.specs.Input.{Parsed, all, foreign, meaningOf, before, parse, c
 use Rattle.input.specs.Laws.{parse-byte, parse-end, found-whole, found-cut}
 use Rattle.watch.specs.declared.Watched.{Watched}
 use Rattle.watch.specs.Watch.{Scene, scene, worldOf, sceneAfter, worldAfresh, memoryAfresh}
-use Rattle.text.specs.Text.{said, decimal, lineOf, numbered}
+use Rattle.text.specs.Text.{said, decimal, eventLine, numbered}
 use Rattle.text.specs.Page.{Page, page, penned}
 use Rattle.text.specs.Laws.{penned-joined, penned-none, texts-3}
 use Rattle.lines.specs.declared.Run.{Run}
@@ -28,12 +28,12 @@ use Rattle.lines.specs.Report.{linesFrom, header, parsedReport, reportOf
 module _ (run : Run) (memory output : List ℕ) where
   pub item-passed :
       (x : Item) {w : Watched} {left : List ℕ} {q : Page} → scene w left ≡ sceneAfter (run .world) memory x
-      → q ≡ penned (lineOf (run .item) (w .heard) (w .world .state .handler .pointer)) (page (run .at) output)
+      → q ≡ penned (eventLine (run .item) (w .heard) (w .world .state .handler .pointer)) (page (run .at) output)
       → progress (runAt (w .world) (run .item + 1) (q .at)) left (q .bytes) ≡ itemPassed run memory output x
   item-passed x {w} {left} e f =
       ap (λ (t : Page). progress (runAt (w .world) (run .item + 1) (t .at)) left (t .bytes)) f
       ∙ ap (λ (s : Scene).
-      let p : Page = penned (lineOf (run .item) (s .watched .heard) (s .watched .world .state .handler .pointer)) (page (run .at) output) in
+      let p : Page = penned (eventLine (run .item) (s .watched .heard) (s .watched .world .state .handler .pointer)) (page (run .at) output) in
       progress (runAt (s .watched .world) (run .item + 1) (p .at)) (s .memory) (p .bytes)) e
 
   pub next-item : (x : Item) {g : Progress} → g ≡ itemPassed run memory output x → g .run .item ≡ run .item + 1

@@ -12,7 +12,7 @@ use Rattle.input.specs.declared.Meaning.the-variants.{Skipped, Taken, Foreign}
 use Rattle.input.specs.Input.{Parsed, all, foreign, parse}
 use Rattle.watch.specs.declared.World.{World}
 use Rattle.watch.specs.Watch.{Scene, sceneAfter, worldAfresh, memoryAfresh}
-use Rattle.text.specs.Text.{said, decimal, lineOf, numbered}
+use Rattle.text.specs.Text.{said, decimal, eventLine, numbered}
 use Rattle.text.specs.Page.{Page, page, penned}
 use Rattle.lines.specs.declared.Run.{Run}
 
@@ -21,7 +21,7 @@ unfoldable pub linesFrom : World → List ℕ → ℕ → List Item → List ℕ
 linesFrom w memory item [] = []
 linesFrom w memory item (x ∷ xs) =
     let s : Scene = sceneAfter w memory x in
-    lineOf item (s .watched .heard) (s .watched .world .state .handler .pointer)
+    eventLine item (s .watched .heard) (s .watched .world .state .handler .pointer)
     ++ linesFrom (s .watched .world) (s .memory) (item + 1) xs
 
 abbrev pub header : List ℕ
@@ -51,7 +51,7 @@ progress run memory output = record { run = run; memory = memory; output = outpu
 abbrev pub itemPassed : Run → List ℕ → List ℕ → Item → Progress
 itemPassed run memory output x =
     let s : Scene = sceneAfter (run .world) memory x in
-    let p : Page = penned (lineOf (run .item) (s .watched .heard) (s .watched .world .state .handler .pointer)) (page (run .at) output) in
+    let p : Page = penned (eventLine (run .item) (s .watched .heard) (s .watched .world .state .handler .pointer)) (page (run .at) output) in
     progress (runAt (s .watched .world) (run .item + 1) (p .at)) (s .memory) (p .bytes)
 
 abbrev pub bytePassed : Run → List ℕ → List ℕ → Meaning → Progress

@@ -35,7 +35,7 @@ use Rattle.input.specs.Laws.{found, found-short}
 use Rattle.input.specs.Input.{Parsed, all, foreign, parse}
 use Rattle.watch.specs.declared.World.{World}
 use Rattle.watch.specs.Watch.{Scene, sceneAfter, worldAfresh, memoryAfresh}
-use Rattle.text.specs.Text.{said, decimal, lineOf, numbered}
+use Rattle.text.specs.Text.{said, decimal, eventLine, numbered}
 use Rattle.text.specs.Page.{page, penned}
 use Rattle.text.specs.Laws.{penned-at, line-length, numbered-room, digits-2, digits-5}
 use Rattle.lines.specs.Report.{linesFrom, header, parsedReport, reportOf}
@@ -136,7 +136,7 @@ spent marked true sda = record { marks = marked; paid = omega arith }
 spent marked false sda = record { marks = unmarked; paid = omega arith }
 
 -- ---- sixteen bytes for each event
-line-room : (item pointer : ℕ) → item < 100000 → pointer < 32 → (heard : Heard) → length (lineOf item heard pointer) ≤ 8 * weight heard
+line-room : (item pointer : ℕ) → item < 100000 → pointer < 32 → (heard : Heard) → length (eventLine item heard pointer) ≤ 8 * weight heard
 line-room item pointer h g Silence = omega arith
 line-room item pointer h g Started = omega (arith, line-length item pointer Started, digits-5 item h, digits-2 pointer (omega arith))
 line-room item pointer h g Stopped = omega (arith, line-length item pointer Stopped, digits-5 item h, digits-2 pointer (omega arith))
@@ -168,7 +168,7 @@ lines-room w memory item (x ∷ xs) k m h =
     let pointer : ℕ = s .watched .world .state .handler .pointer in
     let p = paid-item w memory x m in
     let rest = lines-room (s .watched .world) (s .memory) (item + 1) xs j (p .0) (omega arith) in
-    let a = length-append (lineOf item (s .watched .heard) pointer) (linesFrom (s .watched .world) (s .memory) (item + 1) xs) in
+    let a = length-append (eventLine item (s .watched .heard) pointer) (linesFrom (s .watched .world) (s .memory) (item + 1) xs) in
     omega (arith, p .1, line-room item pointer (omega arith) (j .inside) (s .watched .heard))
 
 parsed-room : (p : Parsed) → found p ≤ 60000 → length (parsedReport p) ≤ 480046
@@ -192,13 +192,13 @@ pub room : (input : List ℕ) → length (reportOf input) ≤ 480046
 unfolding reportOf
 room input = report-if input (ltb 60000 (length input)) refl
 
--- In a buffer that suffices the report stands whole, from its start on, and the rest of the buffer is as it was.
-pub whole :
+-- In a buffer that suffices the report stands whole-report, from its start on, and the rest of the buffer is as it was.
+pub whole-report :
     (input output : List ℕ) → length (reportOf input) ≤ length output
     → penned (reportOf input) (page 0 output)
     ≡ page (length (reportOf input)) (reportOf input ++ drop (length (reportOf input)) output)
 unfolding penned
-whole input output h = ap₂ page (zero-add _) (sets-eq (reportOf input) output 0 (rw zero-add h) ∙ rw zero-add)
+whole-report input output h = ap₂ page (zero-add _) (sets-eq (reportOf input) output 0 (rw zero-add h) ∙ rw zero-add)
 
 -- What `write_report` answers is at most that.
 pub fits : (input output : List ℕ) {long : ℕ} {left : List ℕ} → page long left ≡ penned (reportOf input) (page 0 output) → long ≤ 480046

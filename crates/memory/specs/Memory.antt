@@ -10,8 +10,8 @@ abbrev pub modulo : ℕ → ℕ → ℕ
 modulo n x = cond (eqb n 0) 0 (x % n)
 
 -- The pointer, one on, modulo n.
-abbrev pub stepped : ℕ → ℕ → ℕ
-stepped n pointer = modulo n (pointer + 1)
+abbrev pub pointerOn : ℕ → ℕ → ℕ
+pointerOn n pointer = modulo n (pointer + 1)
 
 pub record Memory : Type 0 where
   pub bytes : List ℕ
@@ -26,9 +26,9 @@ peeked m = getD (m .bytes) (m .pointer) 0
 
 -- After a byte has been laid out for the master.
 abbrev pub laidOut : ℕ → Memory → Memory
-laidOut n m = memoryOf (m .bytes) (stepped n (m .pointer))
+laidOut n m = memoryOf (m .bytes) (pointerOn n (m .pointer))
 
 -- A byte of a write: the pointer if one is due, else stored, and the pointer one on.
 abbrev pub put : ℕ → Bool → ℕ → Memory → Memory
 put n true byte m = memoryOf (m .bytes) (modulo n byte)
-put n false byte m = memoryOf (set (m .bytes) (m .pointer) byte) (stepped n (m .pointer))
+put n false byte m = memoryOf (set (m .bytes) (m .pointer) byte) (pointerOn n (m .pointer))

@@ -1,7 +1,7 @@
 // A memory with a pointer: what the handler and the plain device do to it, said once.
 ghost use mathlib.Core.Path.{_≡_};
 ghost use lib.ListN.{getD, set};
-ghost use Rattle.memory.specs.Memory.{modulo, stepped};
+ghost use Rattle.memory.specs.Memory.{modulo, pointerOn};
 
 // x modulo n; 0 where there is no memory at all.
 fn wrap(x: u32, n: u16) -> u16
@@ -24,7 +24,7 @@ pub fn aim(n: u16, byte: u8) -> u16
 
 // The pointer, one on.
 pub fn step(n: u16, pointer: u16) -> u16
-    ensures { λ r. ⌜ r ≡ stepped n pointer ⌝ }
+    ensures { λ r. ⌜ r ≡ pointerOn n pointer ⌝ }
 {
     wrap((pointer as u32) + 1, n)
 }

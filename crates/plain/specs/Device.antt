@@ -78,28 +78,28 @@ owes add held scl (Within false bits) turn = owesBit held scl bits turn
 owes add held scl (Ending true byte ninth) turn = own add byte
 owes add held scl (Ending false byte ninth) turn = owesLater turn
 
--- The device as code keeps it: length, pointer and turn by value, the memory's bytes lent.
+-- The device as code keeps it: length, pointer and turn by value, the memory's bytes leftDevice.
 abbrev pub deviceOf : ℕ → ℕ → Turn → Device
 deviceOf n pointer turn = record { n = n; pointer = pointer; turn = turn }
 
-abbrev pub memoryIn : Device → List ℕ → Memory
-memoryIn d bytes = memoryOf bytes (d .pointer)
+abbrev pub deviceMemory : Device → List ℕ → Memory
+deviceMemory d bytes = memoryOf bytes (d .pointer)
 
 abbrev pub deviceIs : Device → List ℕ → Plain
-deviceIs d bytes = plainOf (memoryIn d bytes) (d .turn)
+deviceIs d bytes = plainOf (deviceMemory d bytes) (d .turn)
 
-pub record Lent : Type 0 where
+pub record LeftDevice : Type 0 where
   pub device : Device
   pub bytes : List ℕ
 
-abbrev pub lent : Device → List ℕ → Lent
-lent d bytes = record { device = d; bytes = bytes }
+abbrev pub leftDevice : Device → List ℕ → LeftDevice
+leftDevice d bytes = record { device = d; bytes = bytes }
 
-abbrev pub kept : ℕ → Plain → Lent
-kept n p = lent (deviceOf n (p .memory .pointer) (p .turn)) (p .memory .bytes)
+abbrev pub kept : ℕ → Plain → LeftDevice
+kept n p = leftDevice (deviceOf n (p .memory .pointer) (p .turn)) (p .memory .bytes)
 
 abbrev pub turned : Device → Turn → Device
 turned d turn = deviceOf (d .n) (d .pointer) turn
 
 abbrev pub layingOut : Device → List ℕ → Device
-layingOut d bytes = deviceOf (d .n) (laidOut (d .n) (memoryIn d bytes) .pointer) (Reading (peeked (memoryIn d bytes)))
+layingOut d bytes = deviceOf (d .n) (laidOut (d .n) (deviceMemory d bytes) .pointer) (Reading (peeked (deviceMemory d bytes)))

@@ -1,4 +1,4 @@
--- What a read gives after a write, for every state and all 256 values, and what each write leaves alone
+-- What a read gives byteAfter a write, for every state and all 256 values, and what each write leaves alone
 -- (01, "Register numbers").
 use Prim.Native.Nat.{ℕ, _<_}
 use mathlib.Core.Path.{_≡_, refl, sym, _∙_}
@@ -14,11 +14,11 @@ use Rattle.writes.specs.Writes.{con1Stored, con1Then, written, writeOf}
 use Rattle.refusals.specs.Numbers.{accepted}
 use Rattle.register_bytes.specs.Bits.{bits-back}
 use Rattle.readback.specs.Bits.{byte-back}
-use Rattle.readback.specs.Tables.{holds, takes, clears, bitAfter, after, ReadsBack, apart, values}
+use Rattle.readback.specs.Tables.{holds, takes, clears, bitAfter, byteAfter, ReadsBack, apart, values}
 
 -- Of an old byte made of eight bits.
 made :
-    (t c v : ℕ) (b7 b6 b5 b4 b3 b2 b1 b0 : Bool) → after t c (byteOf b7 b6 b5 b4 b3 b2 b1 b0) v
+    (t c v : ℕ) (b7 b6 b5 b4 b3 b2 b1 b0 : Bool) → byteAfter t c (byteOf b7 b6 b5 b4 b3 b2 b1 b0) v
     ≡ byteOf (bitAfter (bit 7 t) (bit 7 c) b7 (bit 7 v)) (bitAfter (bit 6 t) (bit 6 c) b6 (bit 6 v)) (bitAfter (bit 5 t) (bit 5 c) b5 (bit 5 v)) (bitAfter (bit 4 t) (bit 4 c) b4 (bit 4 v)) (bitAfter (bit 3 t) (bit 3 c) b3 (bit 3 v)) (bitAfter (bit 2 t) (bit 2 c) b2 (bit 2 v)) (bitAfter (bit 1 t) (bit 1 c) b1 (bit 1 v)) (bitAfter (bit 0 t) (bit 0 c) b0 (bit 0 v))
 made t c v b7 b6 b5 b4 b3 b2 b1 b0 =
     let k = bits-back b7 b6 b5 b4 b3 b2 b1 b0 in

@@ -39,16 +39,16 @@ clears Msk = 0
 clears Flag = 0x01
 clears Nowhere = 0
 
--- A bit after a write: the new one where it is taken, both where it can only be cleared, else the old one.
+-- A bit byteAfter a write: the new one where it is taken, both where it can only be cleared, else the old one.
 abbrev pub bitAfter : Bool → Bool → Bool → Bool → Bool
 bitAfter taken cleared old new = cond taken new (cond cleared (old && new) old)
 
-abbrev pub after : ℕ → ℕ → ℕ → ℕ → ℕ
-after taken cleared old new = eachBit (λ i. bitAfter (bit i taken) (bit i cleared) (bit i old) (bit i new))
+abbrev pub byteAfter : ℕ → ℕ → ℕ → ℕ → ℕ
+byteAfter taken cleared old new = eachBit (λ i. bitAfter (bit i taken) (bit i cleared) (bit i old) (bit i new))
 
--- A register after a write: what the masks say of its old value and of what was written.
+-- A register byteAfter a write: what the masks say of its old value and of what was written.
 abbrev pub ReadsBack : Register → ℕ → Module → Type 0
-ReadsBack r v m = holds r (written r v m) ≡ after (takes r) (clears r) (holds r m) v
+ReadsBack r v m = holds r (written r v m) ≡ byteAfter (takes r) (clears r) (holds r m) v
 
 -- The registers that a write to one leaves alone. BUF's write may set BF in STAT or WCOL in CON1; CON1's may clear, where
 -- it disables, bits of STAT and ACKTIM in CON3.

@@ -22,8 +22,8 @@ use Rattle.firmware.specs.declared.Made.the-variants.{Ready, Refused}
 use Rattle.firmware.specs.Handler.{handlerOf, stateOf, setupOf, memoryIn, acknowledged, serve, calledIf, called}
 use Rattle.firmware.specs.Window.{windowFits, windowOf}
 use Rattle.steps.specs.Step.{afterAll}
-use Rattle.trace.specs.Run.{firstBad, stepIf, stepOf, runOf}
-use Rattle.trace.specs.Window.{choice, runInOf}
+use Rattle.trace.specs.Run.{firstBad, byteStepIf, byteStep, runOf}
+use Rattle.trace.specs.Window.{runChoice, runInOf}
 use Rattle.runkept.specs.States.{ValidHandler, ValidState}
 
 -- ---- the module
@@ -105,23 +105,23 @@ called-kept s bytes v =
 
 step-if :
     (level call : Bool) (s : State) (bytes : List ℕ) (item : ℕ) → ValidState s
-    → ValidState (stepIf level call s bytes item .state)
+    → ValidState (byteStepIf level call s bytes item .state)
 step-if true call s bytes item v =
     record { mssp = sample-kept (s .mssp) (sclOf item) (sdaOf item) (v .mssp); handler = v .handler }
 step-if false true s bytes item v = called-kept s bytes v
 step-if false false s bytes item v = v
 
-pub step-kept : (s : State) (bytes : List ℕ) (item : ℕ) → ValidState s → ValidState (stepOf s bytes item .state)
+pub step-kept : (s : State) (bytes : List ℕ) (item : ℕ) → ValidState s → ValidState (byteStep s bytes item .state)
 step-kept s bytes item v = step-if (ltb item 4) (eqb item 4) s bytes item v
 
 pub run-kept : (s : State) (bytes items : List ℕ) → ValidState s → ValidState (runOf s bytes items .state)
 unfolding afterAll
 run-kept s bytes [] v = v
-run-kept s bytes (x ∷ xs) v = run-kept (stepOf s bytes x .state) (stepOf s bytes x .bytes) xs (step-kept s bytes x v)
+run-kept s bytes (x ∷ xs) v = run-kept (byteStep s bytes x .state) (byteStep s bytes x .bytes) xs (step-kept s bytes x v)
 
 run-in-if :
     (fits bad : Bool) (s : State) (buffer : List ℕ) (start n : ℕ) (items : List ℕ) → ValidState s
-    → ValidState (choice fits bad s buffer start n items .state)
+    → ValidState (runChoice fits bad s buffer start n items .state)
 run-in-if false bad s buffer start n items v = v
 run-in-if true true s buffer start n items v = v
 run-in-if true false s buffer start n items v = run-kept s (windowOf start n buffer) items v

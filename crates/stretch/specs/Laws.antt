@@ -9,7 +9,7 @@ use Rattle.wire.specs.declared.Bits.{Bits}
 use Rattle.wire.specs.declared.Remembered.the-variants.{Wire}
 use Rattle.wire.specs.Wire.{sclOf, sdaOf, onWire, condition, edgeFrom}
 use Rattle.stretch.specs.declared.Seen.{Seen}
-use Rattle.stretch.specs.Seen.{seenOn, endedBy, ends, takenAt, placeAt}
+use Rattle.stretch.specs.Seen.{seenOn, endedBy, ends, takenAt, placeSeen}
 use Rattle.stretch.specs.Stretch.{takingStops, takingGoes, sentLevel, sendingStops, sendingGoes, restingStops, restingGoes}
 
 -- SDA's change is a Start or a Stop, but for the mark.
@@ -68,7 +68,7 @@ resting-again holds pulls rise fall w item h =
     (level-still item h w (onWire holds (sclOf item)) (onWire pulls (sdaOf item)) rise fall, seen-again w (onWire holds (sclOf item)) (onWire pulls (sdaOf item)))
 
 -- Without a fall the place stays, and with it what is pulled.
-placed-again : (place : ℕ) (w : Seen) (scl sda : Bool) → placeAt place (seenOn w scl sda) scl ≡ place
+placed-again : (place : ℕ) (w : Seen) (scl sda : Bool) → placeSeen place (seenOn w scl sda) scl ≡ place
 placed-again place w true sda = refl
 placed-again place w false sda = refl
 

@@ -21,12 +21,12 @@ use Rattle.mssp.specs.Drivers.{sclPulled, sdaPulled, isSending}
 use Rattle.sampling.specs.declared.Moved.{Moved}
 use Rattle.sampling.specs.Rules.{_at_, addressFallIf, dataFallIf, bitSentIf, edgeStep, seenIf, sampled}
 use Rattle.stretch.specs.declared.Seen.{Seen}
-use Rattle.stretch.specs.Seen.{lineOf, seenOn, ends, placeAt}
+use Rattle.stretch.specs.Seen.{lineOf, seenOn, ends, placeSeen}
 use Rattle.stretch.specs.Stretch.{takesBits, withBits, riseRule, fallRule, takingStops, takingGoes, sendingStops, sendingGoes, restingStops, restingGoes}
 
 -- A module whose line is a wire that was seen.
-abbrev pub placed : Config → Live → Phase → Seen → Module
-placed c l ph w = moduleOf c l ph (lineOf w)
+abbrev pub moduleSeen : Config → Live → Phase → Seen → Module
+moduleSeen c l ph w = moduleOf c l ph (lineOf w)
 
 -- Where an edge leads a phase that goes on to up at a rise and to down at a fall.
 abbrev phaseBy : Phase → Phase → Phase → Bool → Bool → Phase
@@ -41,8 +41,8 @@ module _ (c : Config) (l : Live) (ph : Phase) (rise fall : Bool) (up : Bool → 
     abbrev Goes : Bool → Bool → Bool → Bool → Type 0
     Goes scl₀ sda₀ scl sda =
         ends (before scl₀ sda₀) scl sda rise fall ≡ false
-        → seenIf true (placed c l ph (before scl₀ sda₀)) scl sda
-        ≡ placed c l (phaseBy ph (up sda) down scl₀ scl) (seenOn (before scl₀ sda₀) scl sda)
+        → seenIf true (moduleSeen c l ph (before scl₀ sda₀)) scl sda
+        ≡ moduleSeen c l (phaseBy ph (up sda) down scl₀ scl) (seenOn (before scl₀ sda₀) scl sda)
 
   -- SCL stays high.
   high : (mark sda₀ sda : Bool) → Goes mark true sda₀ true sda
@@ -79,7 +79,7 @@ taken-phase ph b false false sda = refl
 -- Below the last place the remainder changes nothing.
 sent-phase :
     (byte place : ℕ) (w : Seen) (scl sda : Bool) → ends w scl sda false (leb 7 place) ≡ false
-    → phaseBy (Sending byte place) (Sending byte place) (Sending byte (place + 1)) (w .scl) scl ≡ Sending byte (placeAt place w scl)
+    → phaseBy (Sending byte place) (Sending byte place) (Sending byte (place + 1)) (w .scl) scl ≡ Sending byte (placeSeen place w scl)
 sent-phase byte place w scl sda h = by (w .scl) scl h
   where
     by :
@@ -100,7 +100,7 @@ rested-phase ph false false = refl
 -- A stretch goes over an item: it is a level, and the sample leaves the module where the stretch does.
 pub record Sampled (c : Config) (l : Live) (ph : Phase) (w : Seen) (item : ℕ) (ph′ : Phase) (w′ : Seen) : Type 0 where
   pub level : item < 4
-  pub leaves : sampled (placed c l ph w) (sclOf item) (sdaOf item) ≡ placed c l ph′ w′
+  pub leaves : sampled (moduleSeen c l ph w) (sclOf item) (sdaOf item) ≡ moduleSeen c l ph′ w′
 
 module _ (c : Config) (enabled : c .sspen ≡ true) (l : Live) where
   -- The bits of an address and of data move alike.
@@ -109,13 +109,13 @@ module _ (c : Config) (enabled : c .sspen ≡ true) (l : Live) where
       → ((sda : Bool) → edgeStep c l (ph (p .0)) (Rise sda) ≡ l at ph (pushed (p .0) sda))
       → (whole (p .0) ≡ false → edgeStep c l (ph (p .0)) Fall ≡ l at ph (p .0))
       → ends (p .1) (sclOf item) (sdaOf item) false (whole (p .0)) ≡ false
-      → seenIf (c .sspen) (placed c l (ph (p .0)) (p .1)) (sclOf item) (sdaOf item)
-      ≡ placed c l (ph (takingGoes p item .0)) (takingGoes p item .1)
+      → seenIf (c .sspen) (moduleSeen c l (ph (p .0)) (p .1)) (sclOf item) (sdaOf item)
+      ≡ moduleSeen c l (ph (takingGoes p item .0)) (takingGoes p item .1)
   taken-goes ph p item rises falls h =
       let b : Bits = p .0 in let w : Seen = p .1 in let scl : Bool = sclOf item in let sda : Bool = sdaOf item in
-      ap (λ (t : Bool). seenIf t (placed c l (ph b) w) scl sda) enabled
+      ap (λ (t : Bool). seenIf t (moduleSeen c l (ph b) w) scl sda) enabled
       ∙ goes c l (ph b) false (whole b) (λ (x : Bool). ph (pushed b x)) (ph b) (λ e. rises) falls (w .mark) (w .scl) (w .sda) scl sda h
-      ∙ ap (λ (x : Phase). placed c l x (takingGoes p item .1)) (taken-phase ph b (w .scl) scl sda)
+      ∙ ap (λ (x : Phase). moduleSeen c l x (takingGoes p item .1)) (taken-phase ph b (w .scl) scl sda)
 
   pub sending-goes :
       (byte : ℕ) (p : ℕ × Seen) (item : ℕ) → sendingStops byte p item ≡ false
@@ -127,10 +127,10 @@ module _ (c : Config) (enabled : c .sspen ≡ true) (l : Live) where
       record {
         level = k .0;
         leaves =
-            ap (λ (t : Bool). seenIf t (placed c l (Sending byte place) w) (sclOf item) sda) enabled
+            ap (λ (t : Bool). seenIf t (moduleSeen c l (Sending byte place) w) (sclOf item) sda) enabled
             ∙ goes c l (Sending byte place) false (leb 7 place) (λ (x : Bool). Sending byte place) (Sending byte (place + 1)) (λ e x. refl)
             (λ e. ap (λ (t : Bool). bitSentIf t l byte place) (lt-ltb place 7 (leb-false 7 place e))) (w .mark) (w .scl) (w .sda) (sclOf item) sda (k .1)
-            ∙ ap (λ (ph : Phase). placed c l ph (sendingGoes byte p item .1)) (sent-phase byte place w (sclOf item) sda (k .1));
+            ∙ ap (λ (ph : Phase). moduleSeen c l ph (sendingGoes byte p item .1)) (sent-phase byte place w (sclOf item) sda (k .1));
       }
 
   -- By phase: where the phase takes bits, these move.
@@ -192,7 +192,7 @@ module _ (c : Config) (enabled : c .sspen ≡ true) (l : Live) where
       record {
         level = k .0;
         leaves =
-            ap (λ (t : Bool). seenIf t (placed c l ph w) scl sda) enabled
+            ap (λ (t : Bool). seenIf t (moduleSeen c l ph w) scl sda) enabled
             ∙ goes c l ph (riseRule ph (l .acktim)) (fallRule ph) (λ (x : Bool). ph) ph (rises-by ph t) (falls-by ph t s) (w .mark) (w .scl) (w .sda) scl sda (k .1)
-            ∙ ap (λ (x : Phase). placed c l x (seenOn w scl sda)) (rested-phase ph (w .scl) scl);
+            ∙ ap (λ (x : Phase). moduleSeen c l x (seenOn w scl sda)) (rested-phase ph (w .scl) scl);
       }

@@ -34,5 +34,5 @@ abbrev pub takenAt : Bits → Seen → Bool → Bool → Bits
 takenAt bits w scl sda = cond (w .scl) bits (cond scl (pushed bits sda) bits)
 
 -- A fall moves on to the next place. Below the last one the remainder changes nothing.
-abbrev pub placeAt : ℕ → Seen → Bool → ℕ
-placeAt place w scl = cond (w .scl) (cond scl place (place % 8 + 1)) place
+abbrev pub placeSeen : ℕ → Seen → Bool → ℕ
+placeSeen place w scl = cond (w .scl) (cond scl place (place % 8 + 1)) place

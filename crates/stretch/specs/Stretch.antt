@@ -18,7 +18,7 @@ use Rattle.stretch.specs.declared.Sent.{Sent}
 use Rattle.stretch.specs.declared.Rested.{Rested}
 use Rattle.stretch.specs.declared.Stretch.{Stretch}
 use Rattle.stretch.specs.Walk.{walked, steps}
-use Rattle.stretch.specs.Seen.{seenOn, ends, takenAt, placeAt}
+use Rattle.stretch.specs.Seen.{seenOn, ends, takenAt, placeSeen}
 
 -- ---- an address or data: a byte's last fall ends the stretch
 abbrev pub takingStops : Bits × Seen → ℕ → Bool
@@ -42,7 +42,7 @@ sendingStops byte p item = ltb 3 item || ends (p .1) (sclOf item) (sentLevel byt
 
 abbrev pub sendingGoes : ℕ → ℕ × Seen → ℕ → ℕ × Seen
 sendingGoes byte p item =
-    (placeAt (p .0) (p .1) (sclOf item), seenOn (p .1) (sclOf item) (sentLevel byte (p .0) item))
+    (placeSeen (p .0) (p .1) (sclOf item), seenOn (p .1) (sclOf item) (sentLevel byte (p .0) item))
 
 abbrev pub sentOf : ℕ × Seen → ℕ → Sent
 sentOf p n = record { place = p .0; wire = p .1; length = n }

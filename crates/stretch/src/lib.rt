@@ -1,7 +1,7 @@
 // A stretch: samples that move nothing but the bits so far and the wire remembered. A run takes them in small loops and
 // leaves every other sample to the rules.
 ghost use mathlib.Core.Path.{_≡_};
-ghost use Rattle.stretch.specs.Seen.{lineOf, seenOn, ends, takenAt, placeAt};
+ghost use Rattle.stretch.specs.Seen.{lineOf, seenOn, ends, takenAt, placeSeen};
 ghost use Rattle.stretch.specs.Stretch.{takingOf, sendingOf, restingOf, stretchAt, takesBits, bitsOf, withBits, riseRule, fallRule, phaseStretch, stretchOf};
 use mssp::Module;
 use mssp::Phase;
@@ -77,7 +77,7 @@ fn take_at(bits: Bits, w: Seen, scl: bool, sda: bool) -> Bits
 
 // A fall moves on to the next bit. The last place meets no fall here, so the remainder only keeps the number in range.
 fn place_at(place: u8, w: Seen, scl: bool) -> u8
-    ensures { λ r. ⌜ r ≡ placeAt place w scl ⌝ }
+    ensures { λ r. ⌜ r ≡ placeSeen place w scl ⌝ }
 {
     if w.scl {
         if scl { place } else { place % 8 + 1 }

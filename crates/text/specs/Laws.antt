@@ -14,7 +14,7 @@ use borrow.Author.Tests.{lt-ltb, le-ltb, ltb-true, ltb-false}
 use Rattle.reader.specs.declared.Heard.{Heard}
 use Rattle.reader.specs.declared.Heard.the-variants.{Silence, Started, Stopped, Byte}
 use Rattle.text.specs.declared.Row.{Row}
-use Rattle.text.specs.Text.{said, digit, decimalIn, decimal, conditionRow, byteRow, middle, rowLine, lineOf, numbered}
+use Rattle.text.specs.Text.{said, digit, decimalIn, decimal, conditionRow, byteRow, middle, rowLine, eventLine, numbered}
 use Rattle.text.specs.Page.{Page, page, penned}
 
 -- ---- a page
@@ -133,13 +133,13 @@ row-length item pointer row =
     omega arith
 
 pub line-length : (item pointer : ℕ) (heard : Heard)
-    → length (lineOf item heard pointer) ≤ length (decimal item) + length (decimal pointer) + 9
+    → length (eventLine item heard pointer) ≤ length (decimal item) + length (decimal pointer) + 9
 line-length item pointer Silence = omega arith
 line-length item pointer Started = omega (arith, row-length item pointer (conditionRow (code "S")))
 line-length item pointer Stopped = omega (arith, row-length item pointer (conditionRow (code "P")))
 line-length item pointer (Byte first byte level) = omega (arith, row-length item pointer (byteRow first byte level))
 
-pub line-room : (item pointer : ℕ) (heard : Heard) → item < 100000 → pointer < 100000 → length (lineOf item heard pointer) ≤ 19
+pub line-room : (item pointer : ℕ) (heard : Heard) → item < 100000 → pointer < 100000 → length (eventLine item heard pointer) ≤ 19
 line-room item pointer heard h g = omega (arith, line-length item pointer heard, digits-5 item h, digits-5 pointer g)
 
 pub numbered-length : (words : List ℕ) (n : ℕ) → length (numbered words n) ≡ length words + length (decimal n) + 1
@@ -153,15 +153,15 @@ numbered-room words n h = omega (arith, numbered-length words n, digits-5 n h)
 
 -- Nothing is written where nothing is heard; else the row of what was heard.
 module _ (item pointer : ℕ) {heard told : Heard} (e : heard ≡ told) where
-  pub no-line : told ≡ Silence → (at : ℕ) (bytes : List ℕ) → page at bytes ≡ penned (lineOf item heard pointer) (page at bytes)
+  pub no-line : told ≡ Silence → (at : ℕ) (bytes : List ℕ) → page at bytes ≡ penned (eventLine item heard pointer) (page at bytes)
   no-line s at bytes = rw (e, s) (penned-none at bytes)
 
-  module _ {row shown : Row} (f : row ≡ shown) (same : lineOf item told pointer ≡ rowLine item shown pointer) where
-    line-of-row : lineOf item heard pointer ≡ rowLine item row pointer
+  module _ {row shown : Row} (f : row ≡ shown) (same : eventLine item told pointer ≡ rowLine item shown pointer) where
+    line-of-row : eventLine item heard pointer ≡ rowLine item row pointer
     line-of-row = rw e (same ∙ rw f)
 
-    pub row-put : (p : Page) {q : Page} → q ≡ penned (rowLine item row pointer) p → q ≡ penned (lineOf item heard pointer) p
+    pub row-put : (p : Page) {q : Page} → q ≡ penned (rowLine item row pointer) p → q ≡ penned (eventLine item heard pointer) p
     row-put p w = w ∙ rw line-of-row
 
-    pub room-for-row : (at most : ℕ) → at + length (lineOf item heard pointer) < most → at + length (rowLine item row pointer) < most
+    pub room-for-row : (at most : ℕ) → at + length (eventLine item heard pointer) < most → at + length (rowLine item row pointer) < most
     room-for-row at most h = rw (← line-of-row) h

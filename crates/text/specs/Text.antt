@@ -53,11 +53,11 @@ abbrev pub rowLine : ℕ → Row → ℕ → List ℕ
 rowLine item row pointer = decimal item ++ (middle row ++ (decimal pointer ++ said "\n"))
 
 -- A line for each event, none where nothing is heard.
-abbrev pub lineOf : ℕ → Heard → ℕ → List ℕ
-lineOf item Silence pointer = []
-lineOf item Started pointer = rowLine item (conditionRow (code "S")) pointer
-lineOf item Stopped pointer = rowLine item (conditionRow (code "P")) pointer
-lineOf item (Byte first byte level) pointer = rowLine item (byteRow first byte level) pointer
+abbrev pub eventLine : ℕ → Heard → ℕ → List ℕ
+eventLine item Silence pointer = []
+eventLine item Started pointer = rowLine item (conditionRow (code "S")) pointer
+eventLine item Stopped pointer = rowLine item (conditionRow (code "P")) pointer
+eventLine item (Byte first byte level) pointer = rowLine item (byteRow first byte level) pointer
 
 -- A line that ends in a number.
 abbrev pub numbered : List ℕ → ℕ → List ℕ

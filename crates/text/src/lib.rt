@@ -3,7 +3,7 @@ ghost use mathlib.Core.Path.{_≡_};
 ghost use Prim.Native.Nat.{_+_, _<_, _^_};
 ghost use mathlib.Core.List.{[], _∷_};
 ghost use lib.ListN.{length};
-ghost use Rattle.text.specs.Text.{hexDigit, decimal, conditionRow, byteRow, rowLine, lineOf, numbered};
+ghost use Rattle.text.specs.Text.{hexDigit, decimal, conditionRow, byteRow, rowLine, eventLine, numbered};
 ghost use Rattle.text.specs.Page.{page, penned};
 use reader::Heard;
 
@@ -109,8 +109,8 @@ fn put_row(output: &mut [u8], at: usize, item: usize, row: Row, pointer: u16) ->
 
 // A line where something was heard.
 pub fn put_event(output: &mut [u8], at: usize, item: usize, heard: Heard, pointer: u16) -> usize
-    requires { ⌜ at + length (lineOf item heard pointer) < 2 ^ 64 ⌝ }
-    ensures { λ r. ⌜ page r (now (output .exit)) ≡ penned (lineOf item heard pointer) (page at (now (output .entry))) ⌝ }
+    requires { ⌜ at + length (eventLine item heard pointer) < 2 ^ 64 ⌝ }
+    ensures { λ r. ⌜ page r (now (output .exit)) ≡ penned (eventLine item heard pointer) (page at (now (output .entry))) ⌝ }
 {
     match heard {
         Heard::Silence => at,

@@ -27,16 +27,16 @@ use Rattle.stretch.specs.Walk.{walked, steps}
 use Rattle.mssp.specs.Drivers.{sclPulled, sdaPulled, isSending}
 use Rattle.stretch.specs.Stretch.{takesBits, bitsOf, withBits, riseRule, fallRule, stretchBy, takingStops, takingGoes, sendingStops, sendingGoes, restingStops, restingGoes, phaseStretch, stretchFrom, stretchOf}
 use Rattle.stretch.specs.Theorems.{stretch-within}
-use Rattle.stretch.specs.Sampled.{placed, Sampled, bits-go, sending-goes, rest-goes}
+use Rattle.stretch.specs.Sampled.{moduleSeen, Sampled, bits-go, sending-goes, rest-goes}
 use Rattle.firmware.specs.declared.Handler.{Handler}
 use Rattle.firmware.specs.declared.State.{State}
 use Rattle.firmware.specs.Handler.{Served, served, stateOf}
 use Rattle.steps.specs.Step.{afterAll}
-use Rattle.trace.specs.Run.{movedOn, stepIf, stepOf, runFrom}
+use Rattle.trace.specs.Run.{movedOn, byteStepIf, byteStep, runFrom}
 use Rattle.trace.specs.Theorems.{step-length}
 
 -- ---- any walk whose steps are steps of the run
-module _ {P : Type 0} (stop : P → ℕ → Bool) (go : P → ℕ → P) (put : P → State) (bytes : List ℕ) (law : (p : P) (item : ℕ) → stop p item ≡ false → stepOf (put p) bytes item ≡ served (put (go p item)) bytes) where
+module _ {P : Type 0} (stop : P → ℕ → Bool) (go : P → ℕ → P) (put : P → State) (bytes : List ℕ) (law : (p : P) (item : ℕ) → stop p item ≡ false → byteStep (put p) bytes item ≡ served (put (go p item)) bytes) where
   step-runs :
       (t : Bool) (p : P) (x : ℕ) (xs : List ℕ) → stop p x ≡ t
       → runFrom (served (put (go p x)) bytes) xs
@@ -58,9 +58,9 @@ module _ {P : Type 0} (stop : P → ℕ → Bool) (go : P → ℕ → P) (put : 
 -- A level's step.
 level-step :
     (s : State) (bytes : List ℕ) (item : ℕ) {m : Module} → item < 4
-    → stepIf true (eqb item 4) s bytes item ≡ served (stateOf m (s .handler)) bytes
-    → stepOf s bytes item ≡ served (stateOf m (s .handler)) bytes
-level-step s bytes item h e = ap (λ (t : Bool). stepIf t (eqb item 4) s bytes item) (lt-ltb item 4 h) ∙ e
+    → byteStepIf true (eqb item 4) s bytes item ≡ served (stateOf m (s .handler)) bytes
+    → byteStep s bytes item ≡ served (stateOf m (s .handler)) bytes
+level-step s bytes item h e = ap (λ (t : Bool). byteStepIf t (eqb item 4) s bytes item) (lt-ltb item 4 h) ∙ e
 
 -- A phase has its own bits.
 own-bits : (ph : Phase) → withBits ph (bitsOf ph) ≡ ph
@@ -86,11 +86,11 @@ own-byte MasterAcknowledge s = never s
 -- ---- the stretches of an enabled module that has seen a wire
 module _ (c : Config) (enabled : c .sspen ≡ true) (l : Live) (h : Handler) (bytes : List ℕ) where
   abbrev state : Phase → Seen → State
-  state ph w = stateOf (placed c l ph w) h
+  state ph w = stateOf (moduleSeen c l ph w) h
 
   steps-so :
       {ph ph′ : Phase} {w w′ : Seen} (item : ℕ) → Sampled c l ph w item ph′ w′
-      → stepOf (state ph w) bytes item ≡ served (state ph′ w′) bytes
+      → byteStep (state ph w) bytes item ≡ served (state ph′ w′) bytes
   steps-so {ph} {ph′} {w} {w′} item k =
       level-step (state ph w) bytes item (k .level) (ap (λ (m : Module). served (stateOf m h) bytes) (k .leaves))
 
@@ -167,7 +167,7 @@ run-begins = record { within = omega arith; same = refl; rest = refl }
 
 module _ {s : State} {bytes items : List ℕ} {i : ℕ} {t : State} {window : List ℕ} (before : Running s bytes items i t window) where
   pub run-next :
-      {u : State} {left : List ℕ} → i < length items → served u left ≡ stepOf t window (getD items i 0)
+      {u : State} {left : List ℕ} → i < length items → served u left ≡ byteStep t window (getD items i 0)
       → Running s bytes items (i + 1) u left
   unfolding afterAll
   run-next h e =

@@ -12,40 +12,40 @@ use Rattle.refusals.specs.declared.Verdict.the-variants.{Done, Refused}
 use Rattle.firmware.specs.declared.State.{State}
 use Rattle.firmware.specs.Handler.{Served, served, called}
 use Rattle.firmware.specs.Window.{windowFits}
-use Rattle.trace.specs.Run.{firstBad, sampledBy, stepIf, stepOf}
-use Rattle.trace.specs.Window.{ranIn, outcome, ranOutcome, choice, runInOf}
+use Rattle.trace.specs.Run.{firstBad, sampledBy, byteStepIf, byteStep}
+use Rattle.trace.specs.Window.{ranIn, runOutcome, ranOutcome, runChoice, runInOf}
 
 -- ---- one item
 module _ (s : State) (bytes : List ℕ) (item : ℕ) where
-  by-tests : (a b : Bool) → ltb item 4 ≡ a → eqb item 4 ≡ b → stepIf a b s bytes item ≡ stepOf s bytes item
-  by-tests a b ea eb = sym (ap₂ (λ (x y : Bool). stepIf x y s bytes item) ea eb)
+  by-tests : (a b : Bool) → ltb item 4 ≡ a → eqb item 4 ≡ b → byteStepIf a b s bytes item ≡ byteStep s bytes item
+  by-tests a b ea eb = sym (ap₂ (λ (x y : Bool). byteStepIf x y s bytes item) ea eb)
 
-  pub step-samples : item < 4 → {r : State} → r ≡ sampledBy s item → served r bytes ≡ stepOf s bytes item
+  pub step-samples : item < 4 → {r : State} → r ≡ sampledBy s item → served r bytes ≡ byteStep s bytes item
   step-samples h e = ap (λ (x : State). served x bytes) e ∙ by-tests true (eqb item 4) (lt-ltb item 4 h) refl
 
-  pub step-calls : item ≡ 4 → {w : Served} → w ≡ called s bytes → w ≡ stepOf s bytes item
+  pub step-calls : item ≡ 4 → {w : Served} → w ≡ called s bytes → w ≡ byteStep s bytes item
   step-calls h e = e ∙ by-tests false true (le-ltb item 4 (omega arith)) (eq-eqb item 4 h)
 
-  pub step-idle : 4 ≤ item → (item ≡ 4 → ⊥) → served s bytes ≡ stepOf s bytes item
+  pub step-idle : 4 ≤ item → (item ≡ 4 → ⊥) → served s bytes ≡ byteStep s bytes item
   step-idle h n = by-tests false false (le-ltb item 4 h) (ne-eqb item 4 n)
 
 -- ---- the window
 module _ (s : State) (buffer : List ℕ) (start n : ℕ) (items : List ℕ) {f : Bool} (fits : f ≡ windowFits (length buffer) start n (s .handler .n)) where
   chosen :
       (a b : Bool) → f ≡ a → ltb (firstBad items) (length items) ≡ b
-      → choice a b s buffer start n items ≡ runInOf s buffer start n items
-  chosen a b ea eb = sym (ap₂ (λ (x y : Bool). choice x y s buffer start n items) (sym fits ∙ ea) eb)
+      → runChoice a b s buffer start n items ≡ runInOf s buffer start n items
+  chosen a b ea eb = sym (ap₂ (λ (x y : Bool). runChoice x y s buffer start n items) (sym fits ∙ ea) eb)
 
-  pub no-window : not f ≡ true → outcome (Refused NoWindow) 0 s buffer ≡ runInOf s buffer start n items
+  pub no-window : not f ≡ true → runOutcome (Refused NoWindow) 0 s buffer ≡ runInOf s buffer start n items
   no-window h = chosen false (ltb (firstBad items) (length items)) (not-true f h) refl
 
   module _ (h : not f ≡ false) {bad : ℕ} (first : bad ≡ firstBad items) where
-    pub no-item : bad < length items → outcome (Refused NoItem) bad s buffer ≡ runInOf s buffer start n items
+    pub no-item : bad < length items → runOutcome (Refused NoItem) bad s buffer ≡ runInOf s buffer start n items
     no-item l =
-        ap (λ (k : ℕ). outcome (Refused NoItem) k s buffer) first
+        ap (λ (k : ℕ). runOutcome (Refused NoItem) k s buffer) first
         ∙ chosen true true (not-false f h) (rw first at (lt-ltb bad (length items) l))
 
     pub all-ran :
         length items ≤ bad → {r : State} {left : List ℕ} → served r left ≡ ranIn s buffer start n items
-        → outcome (Done 0) 0 r left ≡ runInOf s buffer start n items
+        → runOutcome (Done 0) 0 r left ≡ runInOf s buffer start n items
     all-ran l e = ap ranOutcome e ∙ chosen true false (not-false f h) (rw first at (le-ltb bad (length items) l))

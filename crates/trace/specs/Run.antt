@@ -38,11 +38,11 @@ abbrev pub itemAt : ℕ → Item
 itemAt byte = itemIf (ltb byte 4) (eqb byte 4) byte
 
 -- One byte's step.
-abbrev pub stepIf : Bool → Bool → State → List ℕ → ℕ → Served
-stepIf level call s bytes byte = after (served s bytes) (itemIf level call byte)
+abbrev pub byteStepIf : Bool → Bool → State → List ℕ → ℕ → Served
+byteStepIf level call s bytes byte = after (served s bytes) (itemIf level call byte)
 
-abbrev pub stepOf : State → List ℕ → ℕ → Served
-stepOf s bytes byte = stepIf (ltb byte 4) (eqb byte 4) s bytes byte
+abbrev pub byteStep : State → List ℕ → ℕ → Served
+byteStep s bytes byte = byteStepIf (ltb byte 4) (eqb byte 4) s bytes byte
 
 -- All the items of a trace, from what there is.
 abbrev pub runFrom : Served → List ℕ → Served

@@ -16,8 +16,8 @@ use Rattle.firmware.specs.Handler.{Served, served, acknowledged, memoryIn, serv
 use Rattle.firmware.specs.Window.{windowFits, windowOf, splice}
 use Rattle.firmware.specs.Laws.{inside}
 use Rattle.steps.specs.Step.{afterAll}
-use Rattle.trace.specs.Run.{firstBad, sampledBy, stepIf, stepOf, runOf}
-use Rattle.trace.specs.Window.{Outcome, choice, runInOf, SameOutside}
+use Rattle.trace.specs.Run.{firstBad, sampledBy, byteStepIf, byteStep, runOf}
+use Rattle.trace.specs.Window.{RunOutcome, runChoice, runInOf, SameOutside}
 
 -- ---- a run is its steps
 pub run-joined :
@@ -25,9 +25,9 @@ pub run-joined :
     → runOf s bytes (xs ++ ys) ≡ runOf (runOf s bytes xs .state) (runOf s bytes xs .bytes) ys
 unfolding afterAll
 run-joined s bytes [] ys = refl
-run-joined s bytes (x ∷ xs) ys = run-joined (stepOf s bytes x .state) (stepOf s bytes x .bytes) xs ys
+run-joined s bytes (x ∷ xs) ys = run-joined (byteStep s bytes x .state) (byteStep s bytes x .bytes) xs ys
 
-pub run-one : (s : State) (bytes : List ℕ) (item : ℕ) → runOf s bytes (item ∷ []) ≡ stepOf s bytes item
+pub run-one : (s : State) (bytes : List ℕ) (item : ℕ) → runOf s bytes (item ∷ []) ≡ byteStep s bytes item
 unfolding afterAll
 run-one s bytes item = refl
 
@@ -37,13 +37,13 @@ pub one-sample :
     → r ≡ sampledBy s level
 one-sample s bytes level h e =
     ap (λ (v : Served). v .state) (e ∙ run-one s bytes level)
-    ∙ ap (λ (t : Bool). stepIf t (eqb level 4) s bytes level .state) (lt-ltb level 4 (omega arith))
+    ∙ ap (λ (t : Bool). byteStepIf t (eqb level 4) s bytes level .state) (lt-ltb level 4 (omega arith))
 
 -- What the run leaves after item k is that item's step on what it left before: no item is passed over, at any place.
 pub after-each :
     (s : State) (bytes items : List ℕ) (k : ℕ) → k < length items
     → let before : Served = runOf s bytes (take k items) in
-    runOf s bytes (take (suc k) items) ≡ stepOf (before .state) (before .bytes) (getD items k 0)
+    runOf s bytes (take (suc k) items) ≡ byteStep (before .state) (before .bytes) (getD items k 0)
 unfolding afterAll
 after-each s bytes items k h = rw (take-suc items k 0) (run-joined s bytes (take k items) (getD items k 0 ∷ []))
 
@@ -66,31 +66,31 @@ called-if true false s bytes = serve-length (s .mssp .live .rw) (s .mssp .live .
 pub called-length : (s : State) (bytes : List ℕ) → length (called s bytes .bytes) ≡ length bytes
 called-length s bytes = called-if (s .mssp .live .sspif) (s .mssp .live .ckp) s bytes
 
-step-if : (level call : Bool) (s : State) (bytes : List ℕ) (item : ℕ) → length (stepIf level call s bytes item .bytes) ≡ length bytes
+step-if : (level call : Bool) (s : State) (bytes : List ℕ) (item : ℕ) → length (byteStepIf level call s bytes item .bytes) ≡ length bytes
 step-if true call s bytes item = refl
 step-if false true s bytes item = called-length s bytes
 step-if false false s bytes item = refl
 
-pub step-length : (s : State) (bytes : List ℕ) (item : ℕ) → length (stepOf s bytes item .bytes) ≡ length bytes
+pub step-length : (s : State) (bytes : List ℕ) (item : ℕ) → length (byteStep s bytes item .bytes) ≡ length bytes
 step-length s bytes item = step-if (ltb item 4) (eqb item 4) s bytes item
 
 pub run-length : (s : State) (bytes items : List ℕ) → length (runOf s bytes items .bytes) ≡ length bytes
 unfolding afterAll
 run-length s bytes [] = refl
-run-length s bytes (x ∷ xs) = run-length (stepOf s bytes x .state) (stepOf s bytes x .bytes) xs ∙ step-length s bytes x
+run-length s bytes (x ∷ xs) = run-length (byteStep s bytes x .state) (byteStep s bytes x .bytes) xs ∙ step-length s bytes x
 
 -- ---- the buffer
 -- A refused run leaves state and buffer as they were.
 refused-if :
     (fits bad : Bool) (s : State) (buffer : List ℕ) (start n : ℕ) (items : List ℕ)
-    → accepted (choice fits bad s buffer start n items .verdict) ≡ false
-    → (choice fits bad s buffer start n items .state ≡ s) × (choice fits bad s buffer start n items .buffer ≡ buffer)
+    → accepted (runChoice fits bad s buffer start n items .verdict) ≡ false
+    → (runChoice fits bad s buffer start n items .state ≡ s) × (runChoice fits bad s buffer start n items .buffer ≡ buffer)
 refused-if false bad s buffer start n items h = (refl, refl)
 refused-if true true s buffer start n items h = (refl, refl)
 refused-if true false s buffer start n items h = absurd (true≢false h)
 
 pub refused-untouched :
-    (s : State) (buffer : List ℕ) (start n : ℕ) (items : List ℕ) → let r : Outcome = runInOf s buffer start n items in
+    (s : State) (buffer : List ℕ) (start n : ℕ) (items : List ℕ) → let r : RunOutcome = runInOf s buffer start n items in
     accepted (r .verdict) ≡ false → (r .state ≡ s) × (r .buffer ≡ buffer)
 refused-untouched s buffer start n items h =
     refused-if (windowFits (length buffer) start n (s .handler .n)) (ltb (firstBad items) (length items)) s buffer start n items h
@@ -114,7 +114,7 @@ window-length start n buffer h = length-take-le n (drop start buffer) (simp leng
 outside-if :
     (fits bad : Bool) (s : State) (buffer : List ℕ) (start n : ℕ) (items : List ℕ)
     → fits ≡ windowFits (length buffer) start n (s .handler .n)
-    → SameOutside start n buffer (choice fits bad s buffer start n items .buffer)
+    → SameOutside start n buffer (runChoice fits bad s buffer start n items .buffer)
 outside-if false bad s buffer start n items e = record { below = refl; above = refl }
 outside-if true true s buffer start n items e = record { below = refl; above = refl }
 outside-if true false s buffer start n items e =

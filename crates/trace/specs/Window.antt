@@ -17,28 +17,28 @@ abbrev pub ranIn : State → List ℕ → ℕ → ℕ → List ℕ → Served
 ranIn s buffer start n items = inBuffer (λ bytes. runOf s bytes items) buffer start n
 
 -- All that a run decides: the verdict, the item's number beside it, the state and every byte of the buffer.
-pub record Outcome : Type 0 where
+pub record RunOutcome : Type 0 where
   pub verdict : Verdict
   pub item : ℕ
   pub state : State
   pub buffer : List ℕ
 
-abbrev pub outcome : Verdict → ℕ → State → List ℕ → Outcome
-outcome verdict item s buffer = record { verdict = verdict; item = item; state = s; buffer = buffer }
+abbrev pub runOutcome : Verdict → ℕ → State → List ℕ → RunOutcome
+runOutcome verdict item s buffer = record { verdict = verdict; item = item; state = s; buffer = buffer }
 
-abbrev pub ranOutcome : Served → Outcome
-ranOutcome w = outcome (Done 0) 0 (w .state) (w .bytes)
+abbrev pub ranOutcome : Served → RunOutcome
+ranOutcome w = runOutcome (Done 0) 0 (w .state) (w .bytes)
 
 -- By whether the window fits and whether an item is bad. Refused, state and buffer stay; beside 4 stands the first bad
 -- item's number.
-abbrev pub choice : Bool → Bool → State → List ℕ → ℕ → ℕ → List ℕ → Outcome
-choice false bad s buffer start n items = outcome (Refused NoWindow) 0 s buffer
-choice true true s buffer start n items = outcome (Refused NoItem) (firstBad items) s buffer
-choice true false s buffer start n items = ranOutcome (ranIn s buffer start n items)
+abbrev pub runChoice : Bool → Bool → State → List ℕ → ℕ → ℕ → List ℕ → RunOutcome
+runChoice false bad s buffer start n items = runOutcome (Refused NoWindow) 0 s buffer
+runChoice true true s buffer start n items = runOutcome (Refused NoItem) (firstBad items) s buffer
+runChoice true false s buffer start n items = ranOutcome (ranIn s buffer start n items)
 
-abbrev pub runInOf : State → List ℕ → ℕ → ℕ → List ℕ → Outcome
+abbrev pub runInOf : State → List ℕ → ℕ → ℕ → List ℕ → RunOutcome
 runInOf s buffer start n items =
-    choice (windowFits (length buffer) start n (s .handler .n)) (ltb (firstBad items) (length items)) s buffer start n items
+    runChoice (windowFits (length buffer) start n (s .handler .n)) (ltb (firstBad items) (length items)) s buffer start n items
 
 -- The bytes before a window and those behind it, the same in two buffers.
 pub record SameOutside (start n : ℕ) (before after : List ℕ) : Type 0 where

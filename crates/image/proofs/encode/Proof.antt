@@ -1,6 +1,6 @@
 -- `image::encode` meets its contract.
 use borrow.Author.Needs.{needs}
-use Rattle.image.specs.Laws.{joined}
+use Rattle.image.specs.Laws.{parts-joined}
 use Rattle.image.proofs.encode.Statement.{statement}
 use Rattle.image.proofs.encode.Tie as tie
 
@@ -13,4 +13,4 @@ encode-spec =
     (λ c.
     let once = c .before .before .before .before .before in
     let second = once .before .before .before in
-    joined _ (second .before .module-part .ensures) (second .handler-part .ensures) (once .copy .ensures .1) (c .before .copy2 .ensures .1)))
+    parts-joined _ (second .before .module-part .ensures) (second .handler-part .ensures) (once .copy .ensures .1) (c .before .copy2 .ensures .1)))
