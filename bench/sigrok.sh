@@ -121,7 +121,10 @@ count_sigrok() {
         echo "sigrok for x86-64 cannot be had, so its instructions are not counted."
         return 1
     fi
-    lay_first && first=$(counted $sigrok_x86 $(reading "$out/first")) && all_read 1 || return 1
+    if ! { lay_first && first=$(counted $sigrok_x86 $(reading "$out/first")) && all_read 1; }; then
+        echo "sigrok did not read the bytes of the first record, or was not counted."
+        return 1
+    fi
     at_each count_reading "$first" >"$out/sigrok_counts" || return 1
     echo "sigrok takes$(awk '{ printf " %d", $4 }' "$out/sigrok_counts") instructions an item at $densities samples per clock"
 }
