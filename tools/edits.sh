@@ -50,7 +50,8 @@ errors_at() { # errors_at CRATE PLACE LOG
 follows='was not admitted'
 # What it says where a proof names a part that the code or the definition has not, takes too many or too few for one, or has an
 # invariant or a measure of other variables than the loop's.
-unfit='can be named from here|binders, but its type has room|error: `(Inv|μ)-loop|is not in scope|not a (field|constructor)|has no field|is not a structural call|is for an impossible case|explicit arguments more than'
+unfit='can be named from here|binders, but its type has room|error: `(Inv|μ)-loop|is not in scope|not a (field|constructor)'
+unfit="$unfit|has no field|expected type \`tie.Need-|is not a structural call|is for an impossible case|explicit arguments more than"
 
 # Whether a proof failed by itself, by the log of an edit.
 failed_by_itself() { # failed_by_itself CRATE PLACE LOG
