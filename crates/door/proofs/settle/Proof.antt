@@ -9,11 +9,7 @@ pub settle-spec : {M : Type 1} → statement M
 settle-spec =
     tie.close
     (tie.spec
-    (λ c. search needs)
-    (λ c κs. search needs)
-    (λ c. search needs)
-    (λ c. search needs)
-    (λ c κs. search needs)
+    (λ c. search needs) (λ c κs. search needs) (λ c. search needs) (λ c. search needs) (λ c κs. search needs)
     (λ c. search needs)
     (λ c. let a = c .before .before .before .before .before .before .before .before .args in settle-done (a .item) (a .next) (now (a .state)) (c .before .before .before .before .before .verdict .given .1) (c .before .before .before .before .before .before .before .before .pre) (c .before .before .save .ensures))
     (λ c. let a = c .before .before .before .before .before .args in settle-refused (a .item) (a .next) (now (a .state)) (c .before .before .verdict2 .given .1) (c .refuse .ensures)))

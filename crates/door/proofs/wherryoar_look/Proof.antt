@@ -8,10 +8,6 @@ pub wherryoar-look-spec : {M : Type 1} → statement M
 wherryoar-look-spec =
     tie.close
     (tie.spec
-    (λ c κs. search needs)
-    (λ c. search needs)
-    (λ c κs. search needs)
-    (λ c. search needs)
-    (λ c κs. search needs)
+    (λ c κs. search needs) (λ c. search needs) (λ c κs. search needs) (λ c. search needs) (λ c κs. search needs)
     (λ c. no-image _ (c .before .before .before .decode .ensures) _ _ (c .before .enum-told .given .1) (c .no-view .ensures))
     (λ c. of-state _ (c .before .before .before .before .decode .ensures) _ _ (c .before .before .s .given .1) (cc)))

@@ -15,11 +15,8 @@ wherryoar-setup-spec =
     (tie.spec
     (λ c κs. search needs)
     (λ c. let a = c .before .before .before .args in setup-length (now (a .state)) (a .add) (a .n) (λ e. omega arith) (c .refuse .ensures))
-    (λ c κs. search needs)
-    (λ c. search needs)
+    (λ c κs. search needs) (λ c. search needs)
     only-48-bytes
-    (λ c. search needs)
-    (λ c κs. search needs)
-    (λ c. search needs)
+    (λ c. search needs) (λ c κs. search needs) (λ c. search needs)
     (λ c. let a = c .before .before .before .before .before .before .before .before .before .before .args in setup-ready (now (a .state)) (a .add) (a .n) (c .before .before .before .before .before .before .before .before .if1 .left) (c .before .before .before .before .before .before .before .set-up .ensures) (c .before .before .before .before .before .s .given .1) (c .before .before .settle .ensures))
     (λ c. let a = c .before .before .before .before .before .before .before .args in setup-refused (now (a .state)) (a .add) (a .n) (c .before .before .before .before .before .if1 .left) (c .before .before .before .before .set-up .ensures) (c .before .before .why .given .1) (c .refuse2 .ensures)))

@@ -18,11 +18,7 @@ pub message-part-spec : {M : Type 1} → statement M
 message-part-spec =
     tie.close
     (tie.spec
-    (λ c. search needs)
-    (λ c κs. search needs)
-    (λ c. search needs)
-    (λ c. search needs)
-    (λ c κs. search needs)
+    (λ c. search needs) (λ c κs. search needs) (λ c. search needs) (λ c. search needs) (λ c κs. search needs)
     sub-count
     (λ c. part-outside _ _ (c .before .before .read-to .ensures) (c .enum-told .given .1))
     returns-2)

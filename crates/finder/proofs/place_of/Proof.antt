@@ -8,5 +8,4 @@ place-of-spec =
     tie.close
     (tie.spec
     (λ c. simp (c .if1 .taken))
-    (λ c. search needs)
-    (λ c. search needs))
+    (λ c. search needs) (λ c. search needs))

@@ -35,9 +35,6 @@ read-to-spec =
     μ-loop
     (λ c κs. search needs)
     loop-holds
-    (λ c. omega arith)
-    (λ c κs. search needs)
-    (λ c. omega arith)
-    (λ c. omega arith)
+    (λ c. omega arith) (λ c κs. search needs) (λ c. omega arith) (λ c. omega arith)
     loop-again
     returns)

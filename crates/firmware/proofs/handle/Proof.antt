@@ -21,10 +21,7 @@ handle-spec =
     (λ c. call-idle (c .before .before .before .before .args .s) _ (c .if1 .taken))
     (λ c κs. search needs)
     ckp-1-ends-it
-    (λ c κs. search needs)
-    (λ c κs. search needs)
-    (λ c κs. search needs)
-    (λ c. search needs)
+    (λ c κs. search needs) (λ c κs. search needs) (λ c κs. search needs) (λ c. search needs)
     rw-1-is-sending
     (λ c. search needs)
     (λ c. call-takes (c .before .before .before .before .before .before .before .before .before .before .before .before .args .s) _ (c .before .before .before .before .before .before .before .before .if1 .left) (c .before .before .before .before .before .before .before .acknowledge .ensures) (c .before .before .before .before .before .before .if2 .left) (c .before .before .before .before .before .if3 .left) (c .before .before .before .before .if4 .taken) (c .before .before .take .ensures))

@@ -7,10 +7,6 @@ pub send-spec : {M : Type 1} → statement M
 send-spec =
     tie.close
     (tie.spec
-    (λ c κs. search needs)
-    (λ c κs. search needs)
-    (λ c κs. search needs)
-    (λ c κs. search needs)
-    (λ c κs. search needs)
+    (λ c κs. search needs) (λ c κs. search needs) (λ c κs. search needs) (λ c κs. search needs) (λ c κs. search needs)
     (λ c κs. search needs)
     (λ c. simp (c .release .ensures, c .before .load .ensures, c .before .before .step .ensures, c .before .before .before .pick-module .ensures, c .before .before .before .before .empty .ensures, c .before .before .before .before .before .peek .ensures)))

@@ -15,6 +15,5 @@ set-up-spec =
     (tie.spec
     (λ c. simp (c .if1 .taken))
     (λ c. simp (ne-eqb _ _ (c .before .if1 .left), lt-ltb _ _ (c .if2 .taken)))
-    (λ c κs. search needs)
-    (λ c. search needs)
+    (λ c κs. search needs) (λ c. search needs)
     ready-in-range)

@@ -15,9 +15,7 @@ after-spec =
     tie.close
     (tie.spec
     (λ c. let a = c .before .before .before .before .before .args in sym (length-take-le (a .count) (a .items .now) (omega arith)))
-    (λ c κs. search needs)
-    (λ c κs. search needs)
-    (λ c. search needs)
+    (λ c κs. search needs) (λ c κs. search needs) (λ c. search needs)
     first-so-many
     (λ c. search needs)
     (λ c. let e = c .before .before .before .before in

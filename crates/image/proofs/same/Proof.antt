@@ -22,10 +22,7 @@ same-spec =
     Inv-loop
     μ-loop
     (λ c. refl)
-    (λ c. omega arith)
-    (λ c. omega arith)
-    (λ c. omega arith)
-    (λ c. omega arith)
+    (λ c. omega arith) (λ c. omega arith) (λ c. omega arith) (λ c. omega arith)
     (λ c.
     let looped = c .before .before .before in
     same-on _ _ (looped .loop .i) (looped .loop .alike) (omega arith) (c .before .before .loop-test .taken) ∙ looped .loop .inv)

@@ -50,13 +50,10 @@ check-spec =
     Inv-loop
     μ-loop
     loop-holds
-    (λ c. omega arith)
-    (λ c κs. search needs)
-    (λ c κs. search needs)
+    (λ c. omega arith) (λ c κs. search needs) (λ c κs. search needs)
     returns
     (λ c κs. search needs)
     add-items
-    (λ c. omega arith)
-    (λ c. omega arith)
+    (λ c. omega arith) (λ c. omega arith)
     loop-again
     returns-2)

@@ -31,7 +31,6 @@ first-above-spec =
     (λ c. c .past-below .ensures)
     (λ c. omega arith)
     above-found
-    (λ c. omega arith)
-    (λ c. omega arith)
+    (λ c. omega arith) (λ c. omega arith)
     (λ c. reach-on (c .before .before .before .loop .inv) (c .before .before .loop-test .taken) (le-leb _ _ (c .if1 .left)))
     (λ c. from-start (reach-end (c .before .loop .inv) (c .loop-test .left))))

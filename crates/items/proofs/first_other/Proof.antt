@@ -27,7 +27,6 @@ first-other-spec =
     (λ c. c .past-same .ensures)
     (λ c. omega arith)
     (λ c. reach-here (c .before .before .before .loop .inv) (c .before .before .loop-test .taken) (ne-eqb _ _ (c .if3 .taken)))
-    (λ c. omega arith)
-    (λ c. omega arith)
+    (λ c. omega arith) (λ c. omega arith)
     (λ c. reach-on (c .before .before .before .loop .inv) (c .before .before .loop-test .taken) (eq-eqb _ _ (c .if3 .left)))
     (λ c. reach-end (c .before .loop .inv) (c .loop-test .left)))

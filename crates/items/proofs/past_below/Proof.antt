@@ -27,10 +27,8 @@ past-below-spec =
     Inv-loop
     μ-loop
     begins-at-the-first
-    (λ c. omega arith)
-    (λ c κs. omega arith)
+    (λ c. omega arith) (λ c κs. omega arith)
     (λ c. c .before .before .before .loop .inv)
-    (λ c. omega arith)
-    (λ c. omega arith)
+    (λ c. omega arith) (λ c. omega arith)
     (λ c. reach-eight (c .before .before .before .loop .inv) (omega arith) (sym (c .before .eight-below .ensures) ∙ not-false _ (c .if1 .left)))
     (λ c. c .before .loop .inv))

@@ -23,10 +23,8 @@ past-same-spec =
     Inv-loop
     μ-loop
     (λ c. reach-begins (omega arith))
-    (λ c. omega arith)
-    (λ c κs. omega arith)
+    (λ c. omega arith) (λ c κs. omega arith)
     (λ c. c .before .before .before .loop .inv)
-    (λ c. omega arith)
-    (λ c. omega arith)
+    (λ c. omega arith) (λ c. omega arith)
     (λ c. reach-eight (c .before .before .before .loop .inv) (omega arith) (sym (c .before .eight-same .ensures) ∙ not-false _ (c .if1 .left)))
     (λ c. c .before .loop .inv))

@@ -30,7 +30,5 @@ pass-item-spec =
     (tie.spec
     (λ c κs. search needs)
     room-for-line
-    (λ c. search needs)
-    (λ c. search needs)
-    (λ c. search needs)
+    (λ c. search needs) (λ c. search needs) (λ c. search needs)
     pointer-after-the-item)

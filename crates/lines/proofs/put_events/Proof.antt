@@ -15,10 +15,6 @@ pub put-events-spec : {M : Type 1} → statement M
 put-events-spec =
     tie.close
     (tie.spec
-    (λ c κs. search needs)
-    (λ c. search needs)
-    (λ c κs. search needs)
-    (λ c. search needs)
-    (λ c. search needs)
+    (λ c κs. search needs) (λ c. search needs) (λ c κs. search needs) (λ c. search needs) (λ c. search needs)
     set-up-as-asked
     (λ c. search needs))

@@ -42,10 +42,7 @@ put-lines-spec =
     μ-loop
     loop-holds
     (λ c. sym (c .before .before .loop .inv .1))
-    (λ c. omega arith)
-    (λ c κs. omega arith)
-    (λ c. omega arith)
-    (λ c. omega arith)
+    (λ c. omega arith) (λ c κs. omega arith) (λ c. omega arith) (λ c. omega arith)
     loop-again
     (λ c. c .before .loop .inv .2)
     returns)

@@ -9,6 +9,5 @@ pub peek-spec : {M : Type 1} → statement M
 peek-spec =
     tie.close
     (tie.spec
-    (λ c. search needs)
-    (λ c. search needs)
+    (λ c. search needs) (λ c. search needs)
     (λ c. sym (List·getD-eq-default (c .before .args .bytes .now) 0 (c .if1 .left))))

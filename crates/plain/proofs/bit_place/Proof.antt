@@ -8,7 +8,6 @@ pub bit-place-spec : {M : Type 1} → statement M
 bit-place-spec =
     tie.close
     (tie.spec
-    (λ c. search needs)
-    (λ c. search needs)
+    (λ c. search needs) (λ c. search needs)
     (λ c. simp (c .before .if1 .taken, sub-one))
     (λ c. search needs))

@@ -13,10 +13,7 @@ pub hear-first-spec : {M : Type 1} → statement M
 hear-first-spec =
     tie.close
     (tie.spec
-    (λ c κs. search needs)
-    (λ c κs. search needs)
-    (λ c κs. search needs)
-    (λ c κs. search needs)
+    (λ c κs. search needs) (λ c κs. search needs) (λ c κs. search needs) (λ c κs. search needs)
     read-turn-begins
     (λ c. simp (← c .before .before .before .is-own .ensures, c .before .before .if1 .taken, ne-eqb _ _ (c .before .if2 .left), c .with-turn .ensures))
     (λ c. simp (← c .before .before .is-own .ensures, c .before .if1 .left, c .with-turn2 .ensures)))

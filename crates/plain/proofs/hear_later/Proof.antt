@@ -12,13 +12,8 @@ pub hear-later-spec : {M : Type 1} → statement M
 hear-later-spec =
     tie.close
     (tie.spec
-    (λ c. search needs)
-    (λ c κs. search needs)
-    (λ c. search needs)
-    (λ c κs. search needs)
-    (λ c. search needs)
-    (λ c κs. search needs)
-    (λ c κs. search needs)
+    (λ c. search needs) (λ c κs. search needs) (λ c. search needs) (λ c κs. search needs) (λ c. search needs)
+    (λ c κs. search needs) (λ c κs. search needs)
     (λ c. simp (c .before .enum-told .given .1, c .with-turn .ensures))
     (λ c. search needs)
     (λ c. simp (c .before .before .before .before .before .turn .given .1) (c .before .before .take-byte .ensures))

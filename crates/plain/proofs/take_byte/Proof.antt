@@ -7,9 +7,7 @@ pub take-byte-spec : {M : Type 1} → statement M
 take-byte-spec =
     tie.close
     (tie.spec
-    (λ c κs. search needs)
-    (λ c κs. search needs)
-    (λ c κs. search needs)
+    (λ c κs. search needs) (λ c κs. search needs) (λ c κs. search needs)
     (λ c. simp (c .aim .ensures, c .before .if1 .taken))
     (λ c. search needs)
     (λ c. simp (c .step .ensures, c .before .before .before .store .ensures, c .before .before .before .before .before .if1 .left)))

@@ -7,14 +7,8 @@ pub fall-place-spec : {M : Type 1} → statement M
 fall-place-spec =
     tie.close
     (tie.spec
-    (λ c. search needs)
-    (λ c. search needs)
-    (λ c κs. search needs)
-    (λ c. search needs)
-    (λ c. search needs)
-    (λ c. search needs)
-    (λ c κs. search needs)
-    (λ c. search needs)
+    (λ c. search needs) (λ c. search needs) (λ c κs. search needs) (λ c. search needs) (λ c. search needs)
+    (λ c. search needs) (λ c κs. search needs) (λ c. search needs)
     (λ c. simp (c .before .before .before .place .given .1, ← c .before .is-whole .ensures, c .if1 .taken))
     (λ c. simp (c .before .before .before .place .given .1, ← c .before .is-whole .ensures, c .if1 .left))
     (λ c. simp (c .before .before .before .place2 .given .1, c .enum-told2 .given .1))

@@ -11,15 +11,8 @@ pub place-after-spec : {M : Type 1} → statement M
 place-after-spec =
     tie.close
     (tie.spec
-    (λ c. search needs)
-    (λ c. search needs)
-    (λ c κs. search needs)
-    (λ c. search needs)
-    (λ c. search needs)
-    (λ c κs. search needs)
-    (λ c. search needs)
-    (λ c κs. search needs)
-    (λ c. search needs)
+    (λ c. search needs) (λ c. search needs) (λ c κs. search needs) (λ c. search needs) (λ c. search needs)
+    (λ c κs. search needs) (λ c. search needs) (λ c κs. search needs) (λ c. search needs)
     (λ c. simp (c .before .enum-told2 .given .1, c .no-bits .ensures))
     stop-ends-the-message
     (λ c. simp (c .before .before .e .given .1) (c .rise-place .ensures))

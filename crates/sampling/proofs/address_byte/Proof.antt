@@ -10,7 +10,6 @@ pub address-byte-spec : {M : Type 1} → statement M
 address-byte-spec =
     tie.close
     (tie.spec
-    (λ c κs. search needs)
-    (λ c κs. search needs)
+    (λ c κs. search needs) (λ c κs. search needs)
     match-is-taken-in
     (λ c. simp (← c .before .matches .ensures, c .if1 .left)))

@@ -10,7 +10,6 @@ pub address-fall-spec : {M : Type 1} → statement M
 address-fall-spec =
     tie.close
     (tie.spec
-    (λ c κs. search needs)
-    (λ c κs. search needs)
+    (λ c κs. search needs) (λ c κs. search needs)
     eighth-fall-ends-an-address
     (λ c. simp (← c .before .is-whole .ensures, c .if1 .left)))

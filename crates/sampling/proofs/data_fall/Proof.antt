@@ -13,7 +13,6 @@ pub data-fall-spec : {M : Type 1} → statement M
 data-fall-spec =
     tie.close
     (tie.spec
-    (λ c κs. search needs)
-    (λ c κs. search needs)
+    (λ c κs. search needs) (λ c κs. search needs)
     eighth-fall-ends-data
     hold-goes-on)

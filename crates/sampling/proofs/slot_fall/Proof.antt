@@ -7,7 +7,5 @@ pub slot-fall-spec : {M : Type 1} → statement M
 slot-fall-spec =
     tie.close
     (tie.spec
-    (λ c κs. search needs)
-    (λ c κs. search needs)
-    (λ c κs. search needs)
+    (λ c κs. search needs) (λ c κs. search needs) (λ c κs. search needs)
     (λ c. simp (c .pick-phase2 .ensures, c .before .pick-phase .ensures, c .before .before .no-bits .ensures)))

@@ -9,6 +9,4 @@ is-end-spec =
     tie.close
     (tie.spec
     (λ c. scl-stays _ _ _ _ _ (c .before .before .before .if1 .taken) (c .before .before .if2 .taken))
-    (λ c. search needs)
-    (λ c. search needs)
-    (λ c. search needs))
+    (λ c. search needs) (λ c. search needs) (λ c. search needs))

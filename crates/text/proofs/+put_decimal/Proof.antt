@@ -26,14 +26,12 @@ pub +put-decimal-spec : {M : Type 1} → statement M
     close μ-put-decimal λ t.
     put-decimal-lts.spec (put-reads.Asked, put-reads.Learnt, put-decimal-below t, put-decimal.Post) (put-decimal-at t)
     put-decimal.Post
-    (λ c. omega arith)
-    (λ c. omega arith)
+    (λ c. omega arith) (λ c. omega arith)
     (λ c κs. omega (arith, length-one _ (c .before .if1 .taken)))
     (λ c. c .before .before .put .kept .0)
     (λ c. number-one _ _ (c .before .before .before .before .if1 .taken) (c .before .before .put .ensures))
     (λ c κs. omega (arith, length-more _ (c .before .if1 .left)))
-    (λ c. omega arith)
-    (λ c. omega arith)
+    (λ c. omega arith) (λ c. omega arith)
     (λ c κs.
     let d = c .before .before .before in
     omega (arith, length-more _ (d .before .before .if1 .left), penned-at _ _ (d .put-decimal .ensures)))

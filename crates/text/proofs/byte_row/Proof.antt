@@ -12,9 +12,6 @@ pub byte-row-spec : {M : Type 1} → statement M
 byte-row-spec =
     tie.close
     (tie.spec
-    (λ c κs. search needs)
-    (λ c κs. search needs)
-    (λ c κs. search needs)
-    (λ c. search needs)
+    (λ c κs. search needs) (λ c κs. search needs) (λ c κs. search needs) (λ c. search needs)
     (λ c. omega (arith, one (c .before .before .before .args .level)))
     address-or-data)

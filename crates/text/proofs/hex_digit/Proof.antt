@@ -8,7 +8,6 @@ pub hex-digit-spec : {M : Type 1} → statement M
 hex-digit-spec =
     tie.close
     (tie.spec
-    (λ c. search needs)
-    (λ c. search needs)
+    (λ c. search needs) (λ c. search needs)
     (λ c. simp (lt-ltb _ _ (c .if1 .taken)))
     (λ c. simp (le-ltb _ _ (c .if1 .left))))

@@ -46,15 +46,8 @@ run-spec =
     Inv-loop
     μ-loop
     (λ c. run-begins)
-    (λ c. omega arith)
-    (λ c κs. search needs)
-    (λ c κs. search needs)
-    (λ c. omega arith)
-    (λ c. omega arith)
-    (λ c. search needs)
-    (λ c. search needs)
-    (λ c κs. search needs)
-    (λ c κs. search needs)
+    (λ c. omega arith) (λ c κs. search needs) (λ c κs. search needs) (λ c. omega arith) (λ c. omega arith)
+    (λ c. search needs) (λ c. search needs) (λ c κs. search needs) (λ c κs. search needs)
     (λ c.
     let l = c .before .before .before .before .before .before .before .before .before .before in let h = c .before .before .before .before .before .before .before .before .before .loop-test .taken in
     let k = ahead-within (c .before .before .before .before .before .before .before .if1 .t .mssp) (l .before .before .before .args .items .now) (l .loop .i + 1) (omega (arith, h)) (c .before .before .before .before .ahead .ensures) in omega arith)

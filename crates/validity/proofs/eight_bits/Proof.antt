@@ -12,5 +12,4 @@ eight-bits-spec =
     (λ c. search needs)
     (λ c. simp (c .before .before .phase .given .1) (c .is-whole .ensures))
     (λ c. simp (c .before .before .phase2 .given .1) (c .is-whole2 .ensures))
-    (λ c. search needs) (λ c. search needs) (λ c. search needs) (λ c. search needs)
-    (λ c. search needs))
+    (λ c. search needs) (λ c. search needs) (λ c. search needs) (λ c. search needs) (λ c. search needs))

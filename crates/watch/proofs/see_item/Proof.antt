@@ -10,11 +10,7 @@ pub see-item-spec : {M : Type 1} → statement M
 see-item-spec =
     tie.close
     (tie.spec
-    (λ c. search needs)
-    (λ c κs. search needs)
-    (λ c. search needs)
-    (λ c. search needs)
-    (λ c. search needs)
+    (λ c. search needs) (λ c κs. search needs) (λ c. search needs) (λ c. search needs) (λ c. search needs)
     (λ c. search needs)
     sample-seen
     (λ c. simp (c .enum-told .given .1))

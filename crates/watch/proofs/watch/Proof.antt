@@ -15,7 +15,5 @@ pub watch-spec : {M : Type 1} → statement M
 watch-spec =
     tie.close
     (tie.spec
-    (λ c κs. search needs)
-    (λ c κs. search needs)
-    (λ c. search needs)
+    (λ c κs. search needs) (λ c κs. search needs) (λ c. search needs)
     state-after-the-item)

@@ -16,9 +16,7 @@ pub edge-of-spec : {M : Type 1} → statement M
 edge-of-spec =
     tie.close
     (tie.spec
-    (λ c. search needs)
-    (λ c. search needs)
-    (λ c κs. search needs)
+    (λ c. search needs) (λ c. search needs) (λ c κs. search needs)
     high-before-and-after
     (λ c. search needs)
     first-level

@@ -14,9 +14,7 @@ pub write-con1-spec : {M : Type 1} → statement M
 write-con1-spec =
     tie.close
     (tie.spec
-    (λ c κs. search needs)
-    (λ c κs. search needs)
-    (λ c κs. search needs)
+    (λ c κs. search needs) (λ c κs. search needs) (λ c κs. search needs)
     sspen-disables
     ckp-releases
     (λ c. simp (c .before .before .store-con1 .ensures, c .before .if1 .left, ne-eqb _ _ (c .if2 .left))))
