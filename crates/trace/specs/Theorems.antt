@@ -1,21 +1,22 @@
 -- What a run is, said without its code: single steps one after the other, over a window that keeps its length, in a buffer
 -- whose other bytes stay; and the first bad item is the first.
 use Prim.Native.Nat.{ℕ, suc, _+_, _<_, _≤_}
-use mathlib.Core.Path.{_≡_, refl, sym, _∙_}
+use mathlib.Core.Path.{_≡_, refl, sym, ap, _∙_}
 use mathlib.Core.Bool.{Bool, true, false, true≢false}
 use mathlib.Core.List.{List, [], _∷_, _++_}
 use native.Mathlib.Omega.{arith}
 use lib.Dec.{eqb, ltb}
 use lib.ListN.{length, take, drop, getD, length-set, length-drop}
 use lib.Seq.{take-suc, length-take-le, take-at, drop-at, drop-drop}
+use borrow.Author.Tests.{lt-ltb}
 use Rattle.refusals.specs.Numbers.{accepted}
 use Rattle.memory.specs.Memory.{Memory, put}
 use Rattle.firmware.specs.declared.State.{State}
-use Rattle.firmware.specs.Handler.{Served, acknowledged, memoryIn, serve, calledIf, called}
+use Rattle.firmware.specs.Handler.{Served, served, acknowledged, memoryIn, serve, calledIf, called}
 use Rattle.firmware.specs.Window.{windowFits, windowOf, splice}
 use Rattle.firmware.specs.Laws.{inside}
 use Rattle.steps.specs.Step.{afterAll}
-use Rattle.trace.specs.Run.{firstBad, byteStepIf, byteStep, runOf}
+use Rattle.trace.specs.Run.{firstBad, sampledBy, byteStepIf, byteStep, runOf}
 use Rattle.trace.specs.Window.{RunOutcome, runChoice, runInOf, SameOutside}
 
 -- ---- a run is its steps
@@ -29,6 +30,14 @@ run-joined s bytes (x ∷ xs) ys = run-joined (byteStep s bytes x .state) (byteS
 pub run-one : (s : State) (bytes : List ℕ) (item : ℕ) → runOf s bytes (item ∷ []) ≡ byteStep s bytes item
 unfolding afterAll
 run-one s bytes item = refl
+
+-- A run of one level is a sample.
+pub one-sample :
+    (s : State) (bytes : List ℕ) (level : ℕ) → level ≤ 3 → {r : State} {left : List ℕ} → served r left ≡ runOf s bytes (level ∷ [])
+    → r ≡ sampledBy s level
+one-sample s bytes level h e =
+    ap (λ (v : Served). v .state) (e ∙ run-one s bytes level)
+    ∙ ap (λ (t : Bool). byteStepIf t (eqb level 4) s bytes level .state) (lt-ltb level 4 (omega arith))
 
 -- What the run leaves after item k is that item's step on what it left before: no item is passed over, at any place.
 pub after-each :

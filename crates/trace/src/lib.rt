@@ -18,8 +18,8 @@ pub struct Ran {
     pub state: State,
 }
 
-// One sample, its level as a number: only the module sees it.
-pub fn sample(s: State, level: u8) -> State
+// A level as a number: only the module sees it.
+fn take_level(s: State, level: u8) -> State
     ensures { λ r. ⌜ r ≡ sampledBy s level ⌝ }
 {
     let m = s.mssp;
@@ -55,7 +55,7 @@ fn run(s: State, window: &mut [u8], items: &[u8]) -> State
     while i < items.len() {
         let item = items[i];
         if item < 4 {
-            t = sample(t, item);
+            t = take_level(t, item);
         } else {
             if item == 4 {
                 t = firmware::handle(t, window);
@@ -70,6 +70,16 @@ fn run(s: State, window: &mut [u8], items: &[u8]) -> State
         }
     }
     t
+}
+
+// One sample: a run of one item, over a byte of its own that it leaves alone.
+pub fn sample(s: State, level: u8) -> State
+    requires { ⌜ level ≤ 3 ⌝ }
+    ensures { λ r. ⌜ r ≡ sampledBy s level ⌝ }
+{
+    let one = [level];
+    let mut nothing = [0u8; 1];
+    run(s, &mut nothing, &one)
 }
 
 // The window is lent on: the run sees only its n bytes.
