@@ -9,7 +9,7 @@ program=target/bin/report
 
 # The program is built from proved crates alone. What is proved stays so, and an interrupted build goes on where it was.
 build() {
-    local crates log status
+    local crates log line status done=0
     crates=$(tools/crates.sh below report | wc -l)
     log=$(mktemp) || return 1
     trap 'rm -f "$log"' EXIT
@@ -18,11 +18,9 @@ Building the report program, once: the $crates crates that it is made of are pro
 That is why its lines can be relied on: they are proved to be what the rules say for every input, not for those tried.
 If you interrupt it, the next run goes on where this one was.
 END
-    rt check report 2>&1 | tee "$log" | awk -v crates="$crates" '
-    /^rt: [a-z0-9_]+ proved/ {
-        printf "crate %d of %d: %s\n", ++done, crates, substr($0, 5)
-        fflush()
-    }'
+    rt check report 2>&1 | tee "$log" | while IFS= read -r line; do
+        [[ $line =~ ^rt:\ ([a-z0-9_]+\ proved.*) ]] && echo "crate $((++done)) of $crates: ${BASH_REMATCH[1]}"
+    done
     status=${PIPESTATUS[0]}
     [ "$status" -eq 0 ] || tail -n 40 "$log"
     return "$status"
