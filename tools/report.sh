@@ -12,7 +12,7 @@ build() {
     local crates log line status done=0
     crates=$(tools/crates.sh below report | wc -l)
     log=$(mktemp) || return 1
-    trap 'rm -f "$log"' EXIT
+    trap "rm -f '$log'" EXIT
     cat <<END
 Building the report program, once: the $crates crates that it is made of are proved first, which takes some minutes.
 That is why its lines can be relied on: they are proved to be what the rules say for every input, not for those tried.
