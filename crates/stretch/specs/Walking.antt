@@ -54,6 +54,28 @@ module _ {P : Type 0} (stop : P → ℕ → Bool) (go : P → ℕ → P) (item :
   past-steps [] = omega arith
   past-steps (x ∷ xs) = steps-if (eqb x item) x xs refl (past-steps xs)
 
+-- From p the walk goes over k items to q, and on from there.
+pub record Onward {P : Type 0} (stop : P → ℕ → Bool) (go : P → ℕ → P) (p : P) (items : List ℕ) (q : P) (k : ℕ) : Type 0 where
+  pub place : walked stop go p items ≡ walked stop go q (drop k items)
+  pub count : steps stop go p items ≡ k + steps stop go q (drop k items)
+
+-- A walk whose steps are steps of another one, which it is put into: the other goes over its items.
+module _ {P Q : Type 0} (stop : P → ℕ → Bool) (go : P → ℕ → P) (halt : Q → ℕ → Bool) (move : Q → ℕ → Q) (put : P → Q) (law : (p : P) (item : ℕ) → stop p item ≡ false → (halt (put p) item ≡ false) × (move (put p) item ≡ put (go p item))) where
+  onward-if :
+      (t : Bool) (p : P) (x : ℕ) (xs : List ℕ) → stop p x ≡ t
+      → Onward halt move (put (go p x)) xs (put (walked stop go (go p x) xs)) (steps stop go (go p x) xs)
+      → Onward halt move (put p) (x ∷ xs) (put (cond t p (walked stop go (go p x) xs))) (cond t 0 (suc (steps stop go (go p x) xs)))
+  unfolding walked steps
+  onward-if true p x xs e rest = record { place = refl; count = omega arith }
+  onward-if false p x xs e rest =
+      let k = law p x e in
+      record { place = rw (k .0, k .1) (rest .place); count = rw (k .0, k .1) (let n = rest .count in omega arith) }
+
+  pub walk-onward : (p : P) (items : List ℕ) → Onward halt move (put p) items (put (walked stop go p items)) (steps stop go p items)
+  unfolding walked steps
+  walk-onward p [] = record { place = refl; count = omega arith }
+  walk-onward p (x ∷ xs) = onward-if (stop p x) p x xs refl (walk-onward (go p x) xs)
+
 -- A loop that is at p before item i walks on as the whole walk from p₀ does.
 pub record Walking {P : Type 0} (stop : P → ℕ → Bool) (go : P → ℕ → P) (items : List ℕ) (p₀ : P) (i : ℕ) (p : P) : Type 0 where
   pub within : i ≤ length items
@@ -76,25 +98,30 @@ module _ {P : Type 0} {stop : P → ℕ → Bool} {go : P → ℕ → P} {items 
         count = let k = rw (drop-cons items i 0 h, e) at (w .count) in rw (add-one, g) (omega arith);
       }
 
+  -- What the walk goes over from where a loop is, the loop may pass over.
+  pub walk-by :
+      {i k r : ℕ} {p q : P} → Walking stop go items p₀ i p → Onward stop go p (drop i items) q k → k ≤ length (drop i items)
+      → r ≡ i + k → Walking stop go items p₀ r q
+  walk-by {i} {k} {r} {p} {q} w on h e =
+      let n : length (drop i items) ≡ length items - i = length-drop i items in
+      let b = w .within in
+      let t : drop k (drop i items) ≡ drop r items = drop-drop k i items ∙ ap (λ (m : ℕ). drop m items) (sym e) in
+      let c = on .count in
+      let u = w .count in
+      let v : steps stop go q (drop k (drop i items)) ≡ steps stop go q (drop r items) = ap (λ (xs : List ℕ). steps stop go q xs) t in
+      record {
+        within = omega arith;
+        place = ap (λ (xs : List ℕ). walked stop go q xs) (sym t) ∙ sym (on .place) ∙ w .place;
+        count = omega arith;
+      }
+
   -- Where an item changes nothing any more, the walk passes over all that are equal to it.
   pub walk-past :
       {i r : ℕ} {p : P} (item : ℕ) → Walking stop go items p₀ i p → stop p item ≡ false → go p item ≡ p
       → r ≡ i + sames item (drop i items) → Walking stop go items p₀ r p
   walk-past {i} {r} {p} item w e g q =
-      let k : sames item (drop i items) ≤ length (drop i items) = span-within (λ (x : ℕ). eqb x item) (drop i items) in
-      let n : length (drop i items) ≡ length items - i = length-drop i items in
-      let b = w .within in
-      let t : drop (sames item (drop i items)) (drop i items) ≡ drop r items =
-      drop-drop (sames item (drop i items)) i items ∙ ap (λ (m : ℕ). drop m items) (sym q) in
-      let s = past-steps stop go item p e g (drop i items) in
-      let u = w .count in
-      let v : steps stop go p (drop (sames item (drop i items)) (drop i items)) ≡ steps stop go p (drop r items) =
-      ap (λ (xs : List ℕ). steps stop go p xs) t in
-      record {
-        within = omega arith;
-        place = ap (λ (xs : List ℕ). walked stop go p xs) (sym t) ∙ sym (past-walked stop go item p e g (drop i items)) ∙ w .place;
-        count = omega arith;
-      }
+      walk-by w (record { place = past-walked stop go item p e g (drop i items); count = past-steps stop go item p e g (drop i items) })
+      (span-within (λ (x : ℕ). eqb x item) (drop i items)) q
 
   -- A step, and all that are equal to its item.
   pub walk-over :

@@ -1,0 +1,132 @@
+-- A stretch is a part of the samples: every item of it is a sample that the rules leave the module with where the stretch does.
+use Prim.Native.Nat.{ℕ, _+_, _-_, _<_, _≤_}
+use mathlib.Core.Path.{_≡_, refl, sym, ap, subst, _∙_}
+use mathlib.Core.Bool.{Bool, true, false}
+use mathlib.Core.List.{List}
+use native.Mathlib.Omega.{arith}
+use lib.ListN.{length, take, drop, getD, length-drop}
+use lib.Seq.{take-all}
+use borrow.Author.Tests.{le-ltb}
+use Rattle.truth.specs.Tests.{never}
+use Rattle.wire.specs.declared.Bits.{Bits}
+use Rattle.wire.specs.declared.Remembered.{Remembered}
+use Rattle.wire.specs.declared.Remembered.the-variants.{Nothing, Wire}
+use Rattle.mssp.specs.declared.Config.{Config}
+use Rattle.mssp.specs.declared.Live.{Live}
+use Rattle.mssp.specs.declared.Phase.{Phase}
+use Rattle.mssp.specs.declared.Phase.the-variants.{Quiet, Address, Data, HeldBefore, Slot, HeldForSending, Sending, MasterAcknowledge}
+use Rattle.mssp.specs.declared.Module.{Module}
+use Rattle.mssp.specs.Module.{moduleOf}
+use Rattle.mssp.specs.Drivers.{sclPulled, sdaPulled, isSending}
+use Rattle.stretch.specs.declared.Seen.{Seen}
+use Rattle.stretch.specs.declared.Stretch.{Stretch}
+use Rattle.stretch.specs.Walking.{Onward, walk-onward, Walking, walk-on, walk-by}
+use Rattle.stretch.specs.Stretch.{takesBits, bitsOf, withBits, riseRule, fallRule, stretchBy, takingStops, takingGoes, sendingStops, sendingGoes, restingStops, restingGoes, phaseStretch, stretchFrom, stretchOf}
+use Rattle.stretch.specs.Theorems.{stretch-within}
+use Rattle.stretch.specs.Sampled.{moduleSeen, Sampled, bits-go, sending-goes, rest-goes}
+use Rattle.samples.specs.Samples.{noSample, sampledAt, movedOn}
+
+-- A phase has its own bits, and a byte that is sent its own place.
+own-bits : (ph : Phase) → withBits ph (bitsOf ph) ≡ ph
+own-bits Quiet = refl
+own-bits (Address bits) = refl
+own-bits (Data bits held) = refl
+own-bits (HeldBefore refused) = refl
+own-bits (Slot pulling) = refl
+own-bits HeldForSending = refl
+own-bits (Sending byte place) = refl
+own-bits MasterAcknowledge = refl
+
+own-byte : (ph : Phase) → isSending ph ≡ true → Sending (bitsOf ph .value) (bitsOf ph .count) ≡ ph
+own-byte Quiet s = never s
+own-byte (Address bits) s = never s
+own-byte (Data bits held) s = never s
+own-byte (HeldBefore refused) s = never s
+own-byte (Slot pulling) s = never s
+own-byte HeldForSending s = never s
+own-byte (Sending byte place) s = refl
+own-byte MasterAcknowledge s = never s
+
+-- ---- the stretches of an enabled module that has seen a wire
+module _ (c : Config) (enabled : c .sspen ≡ true) (l : Live) where
+  goes-so :
+      {ph ph′ : Phase} {w w′ : Seen} (item : ℕ) → Sampled c l ph w item ph′ w′
+      → (noSample (moduleSeen c l ph w) item ≡ false) × (sampledAt (moduleSeen c l ph w) item ≡ moduleSeen c l ph′ w′)
+  goes-so item k = let h = k .level in (le-ltb 3 item (omega arith), k .leaves)
+
+  abbrev Feeds : Phase → Seen → List ℕ → Stretch → Type 0
+  Feeds ph w items r =
+      Onward noSample sampledAt (moduleSeen c l ph w) items (moduleSeen c l (r .phase) (r .wire)) (r .length)
+
+  -- By whether the phase takes bits, else by whether it sends.
+  feeds-by :
+      (takes sends : Bool) (ph : Phase) (w : Seen) (items : List ℕ) → takesBits ph ≡ takes → isSending ph ≡ sends
+      → Feeds ph w items (stretchBy takes sends ph (l .acktim) w items)
+  feeds-by true sends ph w items t s =
+      subst (λ (x : Phase). Feeds x w items (stretchBy true sends ph (l .acktim) w items)) (own-bits ph)
+      (walk-onward takingStops takingGoes noSample sampledAt (λ (p : Bits × Seen). moduleSeen c l (withBits ph (p .0)) (p .1))
+      (λ p item e. goes-so item (bits-go c enabled l ph t p item e)) (bitsOf ph, w) items)
+  feeds-by false true ph w items t s =
+      let byte : ℕ = bitsOf ph .value in
+      subst (λ (x : Phase). Feeds x w items (stretchBy false true ph (l .acktim) w items)) (own-byte ph s)
+      (walk-onward (sendingStops byte) (sendingGoes byte) noSample sampledAt (λ (p : ℕ × Seen). moduleSeen c l (Sending byte (p .0)) (p .1))
+      (λ p item e. goes-so item (sending-goes c enabled l byte p item e)) (bitsOf ph .count, w) items)
+  feeds-by false false ph w items t s =
+      walk-onward (restingStops (sclPulled ph) (sdaPulled ph) (riseRule ph (l .acktim)) (fallRule ph))
+      (restingGoes (sclPulled ph) (sdaPulled ph)) noSample sampledAt (λ (x : Seen). moduleSeen c l ph x)
+      (λ x item e. goes-so item (rest-goes c enabled l ph t s x item e)) w items
+
+  phase-feeds : (ph : Phase) (w : Seen) (items : List ℕ) → Feeds ph w items (phaseStretch ph (l .acktim) w items)
+  phase-feeds ph w items = feeds-by (takesBits ph) (isSending ph) ph w items refl refl
+
+-- ---- the stretch ahead
+module _ (m : Module) (items : List ℕ) where
+  abbrev from : Remembered → Module
+  from rem = moduleOf (m .config) (m .live) (m .phase) (record { remembered = rem; mark = m .line .mark })
+
+  feeds-from :
+      (on : Bool) → m .config .sspen ≡ on → (rem : Remembered)
+      → let r : Stretch = stretchFrom on rem (m .line .mark) (m .phase) (m .live .acktim) items in
+      0 < r .length → Onward noSample sampledAt (from rem) items (movedOn m r) (r .length)
+  feeds-from on e Nothing h = absurd (omega arith)
+  feeds-from false e (Wire scl sda) h = absurd (omega arith)
+  feeds-from true e (Wire scl sda) h =
+      phase-feeds (m .config) e (m .live) (m .phase) (record { scl = scl; sda = sda; mark = m .line .mark }) items
+
+  ahead-feeds :
+      let r : Stretch = stretchOf m items in 0 < r .length → Onward noSample sampledAt m items (movedOn m r) (r .length)
+  ahead-feeds = feeds-from (m .config .sspen) refl (m .line .remembered)
+
+-- ---- the loop, by what is left of the items
+-- The items from i on, as a loop lends them.
+abbrev pub lentFrom : ℕ → List ℕ → List ℕ
+lentFrom i items = take (length items - i) (drop i items)
+
+pub lent-is : (i : ℕ) (items : List ℕ) → lentFrom i items ≡ drop i items
+lent-is i items = take-all (length items - i) (drop i items) (let n : length (drop i items) ≡ length items - i = length-drop i items in omega arith)
+
+module _ {items : List ℕ} {m₀ : Module} {i : ℕ} {m : Module} (before : Walking noSample sampledAt items m₀ i m) where
+  -- One sample by the rules.
+  pub fed-one :
+      {n : Module} → i < length items → getD items i 0 ≤ 3 → n ≡ sampledAt m (getD items i 0)
+      → Walking noSample sampledAt items m₀ (i + 1) n
+  fed-one h l e = walk-on before h (le-ltb 3 (getD items i 0) l) e
+
+  module _ {r : Stretch} (is : r ≡ stretchOf m (lentFrom i items)) where
+    ahead-is : r ≡ stretchOf m (drop i items)
+    ahead-is = is ∙ ap (λ (xs : List ℕ). stretchOf m xs) (lent-is i items)
+
+    ahead-short : r .length ≤ length (drop i items)
+    ahead-short = subst (λ (x : Stretch). x .length ≤ length (drop i items)) (sym ahead-is) (stretch-within m (drop i items))
+
+    pub ahead-within : i + r .length ≤ length items
+    ahead-within =
+        let b = before .within in let k = ahead-short in let n : length (drop i items) ≡ length items - i = length-drop i items in omega arith
+
+    pub fed-ahead : {n : Module} → 0 < r .length → n ≡ movedOn m r → Walking noSample sampledAt items m₀ (i + r .length) n
+    fed-ahead {n} h e =
+        walk-by before
+        (subst (λ (x : Module). Onward noSample sampledAt m (drop i items) x (r .length)) (sym e)
+        (subst (λ (x : Stretch). 0 < x .length → Onward noSample sampledAt m (drop i items) (movedOn m x) (x .length)) (sym ahead-is)
+        (ahead-feeds m (drop i items)) h))
+        ahead-short refl

@@ -1,0 +1,32 @@
+-- Samples one after the other, over the module alone (01, "Calls, refusals and their order"): the items of a trace up to the
+-- first that is no sample.
+use Prim.Native.Nat.{ℕ}
+use mathlib.Core.Bool.{Bool}
+use mathlib.Core.List.{List}
+use lib.Dec.{ltb}
+use Rattle.wire.specs.Wire.{sclOf, sdaOf}
+use Rattle.mssp.specs.declared.Module.{Module}
+use Rattle.mssp.specs.Module.{moduleOf}
+use Rattle.sampling.specs.Rules.{sampled}
+use Rattle.stretch.specs.declared.Stretch.{Stretch}
+use Rattle.stretch.specs.Seen.{lineOf}
+use Rattle.stretch.specs.Walk.{walked, steps}
+use Rattle.samples.specs.declared.Fed.{Fed}
+
+-- An item above 3 is no sample.
+abbrev pub noSample : Module → ℕ → Bool
+noSample m item = ltb 3 item
+
+abbrev pub sampledAt : Module → ℕ → Module
+sampledAt m item = sampled m (sclOf item) (sdaOf item)
+
+-- After a stretch the module is in another phase and has seen another wire; nothing else has changed.
+abbrev pub movedOn : Module → Stretch → Module
+movedOn m ahead = moduleOf (m .config) (m .live) (ahead .phase) (lineOf (ahead .wire))
+
+-- The module after the last sample, and how many samples there are.
+abbrev pub fedBy : Module → ℕ → Fed
+fedBy m n = record { mssp = m; length = n }
+
+abbrev pub fedOf : Module → List ℕ → Fed
+fedOf m items = fedBy (walked noSample sampledAt m items) (steps noSample sampledAt m items)
