@@ -24,6 +24,7 @@ use Rattle.stretch.specs.Walking.{Onward, walk-onward, Walking, walk-on, walk-b
 use Rattle.stretch.specs.Stretch.{takesBits, bitsOf, withBits, riseRule, fallRule, stretchBy, takingStops, takingGoes, sendingStops, sendingGoes, restingStops, restingGoes, phaseStretch, stretchFrom, stretchOf}
 use Rattle.stretch.specs.Theorems.{stretch-within}
 use Rattle.stretch.specs.Sampled.{moduleSeen, Sampled, bits-go, sending-goes, rest-goes}
+use Rattle.samples.specs.Loop.{lentFrom, lent-is}
 use Rattle.samples.specs.Samples.{noSample, sampledAt, movedOn}
 
 -- A phase has its own bits, and a byte that is sent its own place.
@@ -98,13 +99,6 @@ module _ (m : Module) (items : List ℕ) where
   ahead-feeds = feeds-from (m .config .sspen) refl (m .line .remembered)
 
 -- ---- the loop, by what is left of the items
--- The items from i on, as a loop lends them.
-abbrev pub lentFrom : ℕ → List ℕ → List ℕ
-lentFrom i items = take (length items - i) (drop i items)
-
-pub lent-is : (i : ℕ) (items : List ℕ) → lentFrom i items ≡ drop i items
-lent-is i items = take-all (length items - i) (drop i items) (let n : length (drop i items) ≡ length items - i = length-drop i items in omega arith)
-
 module _ {items : List ℕ} {m₀ : Module} {i : ℕ} {m : Module} (before : Walking noSample sampledAt items m₀ i m) where
   -- One sample by the rules.
   pub fed-one :

@@ -23,6 +23,22 @@ unfolding steps
 steps-within stop go p [] = omega arith
 steps-within stop go p (x ∷ xs) = within-if (stop p x) (steps stop go (go p x) xs) (length xs) (steps-within stop go (go p x) xs)
 
+-- Where it takes fewer, the next one ends it.
+ends-if :
+    {P : Type 0} (stop : P → ℕ → Bool) (go : P → ℕ → P) (t : Bool) (p : P) (x : ℕ) (xs : List ℕ) → stop p x ≡ t
+    → (steps stop go (go p x) xs < length xs → stop (walked stop go (go p x) xs) (getD xs (steps stop go (go p x) xs) 0) ≡ true)
+    → cond t 0 (suc (steps stop go (go p x) xs)) < suc (length xs)
+    → stop (cond t p (walked stop go (go p x) xs)) (getD (x ∷ xs) (cond t 0 (suc (steps stop go (go p x) xs))) 0) ≡ true
+ends-if stop go true p x xs e rest h = e
+ends-if stop go false p x xs e rest h = rest (omega arith)
+
+pub walk-ends :
+    {P : Type 0} (stop : P → ℕ → Bool) (go : P → ℕ → P) (p : P) (items : List ℕ) → steps stop go p items < length items
+    → stop (walked stop go p items) (getD items (steps stop go p items) 0) ≡ true
+unfolding walked steps
+walk-ends stop go p [] h = absurd (omega arith)
+walk-ends stop go p (x ∷ xs) h = ends-if stop go (stop p x) p x xs refl (walk-ends stop go (go p x) xs) h
+
 -- Over items that change nothing.
 module _ {P : Type 0} (stop : P → ℕ → Bool) (go : P → ℕ → P) (item : ℕ) (p : P) (e : stop p item ≡ false) (g : go p item ≡ p) where
   walked-if :

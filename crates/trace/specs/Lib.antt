@@ -1,5 +1,5 @@
 pub mod Run
 pub mod Window
 pub mod Laws
-pub mod Ahead
 pub mod Theorems
+pub mod Loop

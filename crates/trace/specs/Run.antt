@@ -5,10 +5,7 @@ use mathlib.Core.List.{List, map}
 use lib.Dec.{eqb, ltb}
 use Rattle.items.specs.First.{firstAbove}
 use Rattle.wire.specs.Wire.{sclOf, sdaOf}
-use Rattle.mssp.specs.Module.{moduleOf}
 use Rattle.sampling.specs.Rules.{sampled}
-use Rattle.stretch.specs.declared.Stretch.{Stretch}
-use Rattle.stretch.specs.Seen.{lineOf}
 use Rattle.firmware.specs.declared.State.{State}
 use Rattle.firmware.specs.Handler.{Served, served, stateOf}
 use Rattle.steps.specs.declared.Item.{Item}
@@ -22,11 +19,6 @@ firstBad items = firstAbove 4 items
 -- A sample moves the module; the handler's variables stay.
 abbrev pub sampledBy : State → ℕ → State
 sampledBy s level = stateOf (sampled (s .mssp) (sclOf level) (sdaOf level)) (s .handler)
-
--- After a stretch the module is in another phase and has seen another wire; nothing else has changed.
-abbrev pub movedOn : State → Stretch → State
-movedOn s ahead =
-    stateOf (moduleOf (s .mssp .config) (s .mssp .live) (ahead .phase) (lineOf (ahead .wire))) (s .handler)
 
 -- A byte of a trace as an item.
 abbrev pub itemIf : Bool → Bool → ℕ → Item

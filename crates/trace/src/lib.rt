@@ -2,14 +2,13 @@
 ghost use mathlib.Core.Path.{_≡_};
 ghost use Prim.Native.Nat.{_+_, _≤_};
 ghost use lib.ListN.{length};
-ghost use Rattle.firmware.specs.Handler.{served};
-ghost use Rattle.trace.specs.Run.{sampledBy, movedOn, runOf};
+ghost use Rattle.firmware.specs.Handler.{served, stateOf};
+ghost use Rattle.trace.specs.Run.{sampledBy, runOf};
 ghost use Rattle.trace.specs.Window.{ranIn, runOutcome, runInOf};
 use firmware::State;
 use mssp::Module;
 use refusals::Refusal;
 use refusals::Verdict;
-use stretch::Stretch;
 
 // What a run answers: the verdict, beside refusal 4 the first bad item's number, and the state after it.
 pub struct Ran {
@@ -18,68 +17,41 @@ pub struct Ran {
     pub state: State,
 }
 
-// A level as a number: only the module sees it.
-fn take_level(s: State, level: u8) -> State
+fn with_module(s: State, m: Module) -> State
+    ensures { λ r. ⌜ r ≡ stateOf m (s .handler) ⌝ }
+{
+    State { mssp: m, ..s }
+}
+
+// One sample, a level as a number: only the module sees it.
+pub fn sample(s: State, level: u8) -> State
     ensures { λ r. ⌜ r ≡ sampledBy s level ⌝ }
 {
     let m = s.mssp;
-    let h = s.handler;
     let next = sampling::sample(m, level / 2 % 2 == 1, level / 1 % 2 == 1);
-    State {
-        mssp: next,
-        handler: h,
-    }
+    with_module(s, next)
 }
 
-// The state after a stretch.
-fn move_on(s: State, ahead: Stretch) -> State
-    ensures { λ r. ⌜ r ≡ movedOn s ahead ⌝ }
-{
-    let m = s.mssp;
-    let phase = ahead.phase;
-    let w = ahead.wire;
-    let next = Module {
-        phase: phase,
-        line: stretch::line_of(w),
-        ..m
-    };
-    State { mssp: next, ..s }
-}
-
-// All the items, in their order. After each item that a rule has to see comes the stretch that it begins.
+// All the items, in their order: the samples up to the next that is none, then what that one is.
 fn run(s: State, window: &mut [u8], items: &[u8]) -> State
     ensures { λ r. ⌜ served r (now (window .exit)) ≡ runOf s (now (window .entry)) (now (items .entry)) ⌝ }
 {
     let mut t = s;
     let mut i = 0;
     while i < items.len() {
-        let item = items[i];
-        if item < 4 {
-            t = take_level(t, item);
-        } else {
-            if item == 4 {
+        let m = t.mssp;
+        let fed = samples::feed(m, &items[i..]);
+        let next = fed.mssp;
+        t = with_module(t, next);
+        i += fed.length;
+        if i < items.len() {
+            if items[i] == 4 {
                 t = firmware::handle(t, window);
             }
-        }
-        i += 1;
-        let m = t.mssp;
-        let ahead = stretch::ahead(m, &items[i..]);
-        if ahead.length > 0 {
-            t = move_on(t, ahead);
-            i += ahead.length;
+            i += 1;
         }
     }
     t
-}
-
-// One sample: a run of one item, over a byte of its own that it leaves alone.
-pub fn sample(s: State, level: u8) -> State
-    requires { ⌜ level ≤ 3 ⌝ }
-    ensures { λ r. ⌜ r ≡ sampledBy s level ⌝ }
-{
-    let one = [level];
-    let mut nothing = [0u8; 1];
-    run(s, &mut nothing, &one)
 }
 
 // The window is lent on: the run sees only its n bytes.
