@@ -1,12 +1,12 @@
 -- A stretch is a part of the samples: every item of it is a sample that the rules leave the module with where the stretch does.
-use Prim.Native.Nat.{ℕ, _+_, _-_, _<_, _≤_}
+use Prim.Native.Nat.{ℕ, _+_, _<_, _≤_}
 use mathlib.Core.Path.{_≡_, refl, sym, ap, subst, _∙_}
 use mathlib.Core.Bool.{Bool, true, false}
 use mathlib.Core.List.{List}
 use native.Mathlib.Omega.{arith}
-use lib.ListN.{length, take, drop, getD, length-drop}
-use lib.Seq.{take-all}
-use borrow.Author.Tests.{le-ltb}
+use lib.Dec.{ltb}
+use lib.ListN.{length, drop, getD}
+use borrow.Author.Tests.{ltb-true, lt-ltb, le-ltb}
 use Rattle.truth.specs.Tests.{never}
 use Rattle.wire.specs.declared.Bits.{Bits}
 use Rattle.wire.specs.declared.Remembered.{Remembered}
@@ -25,7 +25,8 @@ use Rattle.stretch.specs.Stretch.{takesBits, bitsOf, withBits, riseRule, fallRu
 use Rattle.stretch.specs.Theorems.{stretch-within}
 use Rattle.stretch.specs.Sampled.{moduleSeen, Sampled, bits-go, sending-goes, rest-goes}
 use Rattle.samples.specs.Loop.{lentFrom, lent-is}
-use Rattle.samples.specs.Samples.{noSample, sampledAt, movedOn}
+use Rattle.samples.specs.declared.Fed.{Fed}
+use Rattle.samples.specs.Samples.{noSample, sampledAt, movedOn, fedBy, passedIf, stretchPassed}
 
 -- A phase has its own bits, and a byte that is sent its own place.
 own-bits : (ph : Phase) → withBits ph (bitsOf ph) ≡ ph
@@ -98,29 +99,35 @@ module _ (m : Module) (items : List ℕ) where
       let r : Stretch = stretchOf m items in 0 < r .length → Onward noSample sampledAt m items (movedOn m r) (r .length)
   ahead-feeds = feeds-from (m .config .sspen) refl (m .line .remembered)
 
+-- The two ways through the code.
+module _ (m : Module) (items : List ℕ) {ahead : Stretch} (is : ahead ≡ stretchOf m items) where
+  by-test : (t : Bool) → ltb 0 (ahead .length) ≡ t → passedIf t m ahead ≡ stretchPassed m items
+  by-test t e = ap (λ (x : Bool). passedIf x m ahead) (sym e) ∙ ap (λ (x : Stretch). passedIf (ltb 0 (x .length)) m x) is
+
+  pub passed-over : {n : Module} → 0 < ahead .length → n ≡ movedOn m ahead → fedBy n (ahead .length) ≡ stretchPassed m items
+  passed-over h e = ap (λ (x : Module). fedBy x (ahead .length)) e ∙ by-test true (lt-ltb 0 (ahead .length) h)
+
+  pub passed-none : ahead .length ≤ 0 → fedBy m 0 ≡ stretchPassed m items
+  passed-none h = by-test false (le-ltb 0 (ahead .length) h)
+
+-- Passed over or not, the samples go on from there.
+passed-if :
+    (t : Bool) (m : Module) (items : List ℕ) → let ahead : Stretch = stretchOf m items in ltb 0 (ahead .length) ≡ t
+    → let r : Fed = passedIf t m ahead in Onward noSample sampledAt m items (r .mssp) (r .length) × (r .length ≤ length items)
+passed-if true m items e = (ahead-feeds m items (ltb-true 0 _ e), stretch-within m items)
+passed-if false m items e = (record { place = refl; count = omega arith }, omega arith)
+
 -- ---- the loop, by what is left of the items
 module _ {items : List ℕ} {m₀ : Module} {i : ℕ} {m : Module} (before : Walking noSample sampledAt items m₀ i m) where
+  pub stretch-walked :
+      {r : Fed} → r ≡ stretchPassed m (lentFrom i items) → Walking noSample sampledAt items m₀ (i + r .length) (r .mssp)
+  stretch-walked {r} is =
+      let e : r ≡ stretchPassed m (drop i items) = is ∙ ap (λ (xs : List ℕ). stretchPassed m xs) (lent-is i items) in
+      subst (λ (x : Fed). Walking noSample sampledAt items m₀ (i + x .length) (x .mssp)) (sym e)
+      (let k = passed-if (ltb 0 (stretchOf m (drop i items) .length)) m (drop i items) refl in walk-by before (k .0) (k .1) refl)
+
   -- One sample by the rules.
-  pub fed-one :
+  pub sample-walked :
       {n : Module} → i < length items → getD items i 0 ≤ 3 → n ≡ sampledAt m (getD items i 0)
       → Walking noSample sampledAt items m₀ (i + 1) n
-  fed-one h l e = walk-on before h (le-ltb 3 (getD items i 0) l) e
-
-  module _ {r : Stretch} (is : r ≡ stretchOf m (lentFrom i items)) where
-    ahead-is : r ≡ stretchOf m (drop i items)
-    ahead-is = is ∙ ap (λ (xs : List ℕ). stretchOf m xs) (lent-is i items)
-
-    ahead-short : r .length ≤ length (drop i items)
-    ahead-short = subst (λ (x : Stretch). x .length ≤ length (drop i items)) (sym ahead-is) (stretch-within m (drop i items))
-
-    pub ahead-within : i + r .length ≤ length items
-    ahead-within =
-        let b = before .within in let k = ahead-short in let n : length (drop i items) ≡ length items - i = length-drop i items in omega arith
-
-    pub fed-ahead : {n : Module} → 0 < r .length → n ≡ movedOn m r → Walking noSample sampledAt items m₀ (i + r .length) n
-    fed-ahead {n} h e =
-        walk-by before
-        (subst (λ (x : Module). Onward noSample sampledAt m (drop i items) x (r .length)) (sym e)
-        (subst (λ (x : Stretch). 0 < x .length → Onward noSample sampledAt m (drop i items) (movedOn m x) (x .length)) (sym ahead-is)
-        (ahead-feeds m (drop i items)) h))
-        ahead-short refl
+  sample-walked h l e = walk-on before h (le-ltb 3 (getD items i 0) l) e

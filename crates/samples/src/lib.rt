@@ -1,7 +1,7 @@
-// Samples one after the other, over the module alone: each that a rule has to see, then the stretch that it begins. A handler
-// adds to it what it does between samples.
+// Samples one after the other, over the module alone: a stretch, then the sample that a rule has to see. A handler adds to it
+// what it does between samples.
 ghost use mathlib.Core.Path.{_≡_};
-ghost use Rattle.samples.specs.Samples.{movedOn, fedOf};
+ghost use Rattle.samples.specs.Samples.{movedOn, stretchPassed, fedOf};
 use mssp::Module;
 use stretch::Stretch;
 
@@ -24,6 +24,21 @@ fn move_on(m: Module, ahead: Stretch) -> Module
     }
 }
 
+// Over the stretch ahead, where there is one.
+fn pass_stretch(m: Module, items: &[u8]) -> Fed
+    ensures { λ r. ⌜ r ≡ stretchPassed m (now (items .entry)) ⌝ }
+{
+    let ahead = stretch::ahead(m, items);
+    let length = ahead.length;
+    if length > 0 {
+        return Fed {
+            mssp: move_on(m, ahead),
+            length: length,
+        };
+    }
+    Fed { mssp: m, length: 0 }
+}
+
 // All the samples up to the first item that is none.
 pub fn feed(m: Module, items: &[u8]) -> Fed
     ensures { λ r. ⌜ r ≡ fedOf m (now (items .entry)) ⌝ }
@@ -31,16 +46,16 @@ pub fn feed(m: Module, items: &[u8]) -> Fed
     let mut n = m;
     let mut i = 0;
     while i < items.len() {
-        let item = items[i];
-        if item > 3 {
-            return Fed { mssp: n, length: i };
-        }
-        n = sampling::sample(n, item / 2 % 2 == 1, item / 1 % 2 == 1);
-        i += 1;
-        let ahead = stretch::ahead(n, &items[i..]);
-        if ahead.length > 0 {
-            n = move_on(n, ahead);
-            i += ahead.length;
+        let passed = pass_stretch(n, &items[i..]);
+        n = passed.mssp;
+        i += passed.length;
+        if i < items.len() {
+            let item = items[i];
+            if item > 3 {
+                return Fed { mssp: n, length: i };
+            }
+            n = sampling::sample(n, item / 2 % 2 == 1, item / 1 % 2 == 1);
+            i += 1;
         }
     }
     Fed { mssp: n, length: i }

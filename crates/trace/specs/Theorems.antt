@@ -31,14 +31,6 @@ pub run-one : (s : State) (bytes : List ℕ) (item : ℕ) → runOf s bytes (ite
 unfolding afterAll
 run-one s bytes item = refl
 
--- A run of one level is a sample.
-pub one-sample :
-    (s : State) (bytes : List ℕ) (level : ℕ) → level ≤ 3 → {r : State} {left : List ℕ} → served r left ≡ runOf s bytes (level ∷ [])
-    → r ≡ sampledBy s level
-one-sample s bytes level h e =
-    ap (λ (v : Served). v .state) (e ∙ run-one s bytes level)
-    ∙ ap (λ (t : Bool). byteStepIf t (eqb level 4) s bytes level .state) (lt-ltb level 4 (omega arith))
-
 -- What the run leaves after item k is that item's step on what it left before: no item is passed over, at any place.
 pub after-each :
     (s : State) (bytes items : List ℕ) (k : ℕ) → k < length items

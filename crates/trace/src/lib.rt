@@ -3,7 +3,7 @@ ghost use mathlib.Core.Path.{_≡_};
 ghost use Prim.Native.Nat.{_+_, _≤_};
 ghost use lib.ListN.{length};
 ghost use Rattle.firmware.specs.Handler.{served, stateOf};
-ghost use Rattle.trace.specs.Run.{sampledBy, runOf};
+ghost use Rattle.trace.specs.Run.{levelTaken, runOf};
 ghost use Rattle.trace.specs.Window.{ranIn, runOutcome, runInOf};
 use firmware::State;
 use mssp::Module;
@@ -23,12 +23,13 @@ fn with_module(s: State, m: Module) -> State
     State { mssp: m, ..s }
 }
 
-// One sample, a level as a number: only the module sees it.
+// One sample, fed to the module. A level above 3 is none, and changes nothing.
 pub fn sample(s: State, level: u8) -> State
-    ensures { λ r. ⌜ r ≡ sampledBy s level ⌝ }
+    ensures { λ r. ⌜ r ≡ levelTaken s level ⌝ }
 {
     let m = s.mssp;
-    let next = sampling::sample(m, level / 2 % 2 == 1, level / 1 % 2 == 1);
+    let fed = samples::feed(m, &[level]);
+    let next = fed.mssp;
     with_module(s, next)
 }
 

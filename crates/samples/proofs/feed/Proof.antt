@@ -6,7 +6,7 @@ use lib.ListN.{length}
 use borrow.Author.Tests.{lt-ltb}
 use Rattle.stretch.specs.Walking.{Walking, walk-begins, walk-stops, walk-out}
 use Rattle.samples.specs.Samples.{noSample, sampledAt, fedBy}
-use Rattle.samples.specs.Laws.{fed-one, ahead-within, fed-ahead}
+use Rattle.samples.specs.Laws.{stretch-walked, sample-walked}
 use Rattle.samples.proofs.feed.Statement.{statement}
 use Rattle.samples.proofs.feed.Tie as tie
 
@@ -16,19 +16,9 @@ Inv-loop items n₀ i₀ n i = Walking noSample sampledAt items n₀ i n
 abbrev μ-loop : tie.MeasureT-loop
 μ-loop items n₀ i₀ n i = length items - i
 
--- A sample by the rules.
-sampled-on : tie.Need-loop-again-2 Inv-loop μ-loop
-sampled-on c =
-    let t = c .before .before .before .before in
-    fed-one (t .before .before .before .before .loop .inv) (t .before .before .before .loop-test .taken) (t .before .if1 .left) (t .sample .ensures)
-
--- A sample, and the stretch that it begins.
-stretched-on : tie.Need-loop-again Inv-loop μ-loop
-stretched-on c =
-    let t = c .before .before .before .before .before .before in
-    fed-ahead
-    (fed-one (t .before .before .before .before .loop .inv) (t .before .before .before .loop-test .taken) (t .before .if1 .left) (t .sample .ensures))
-    (c .before .before .before .before .ahead .ensures) (c .before .before .if2 .taken) (c .before .move-on .ensures)
+-- The stretch, and the sample after it by the rules.
+sample-after : tie.Need-loop-again Inv-loop μ-loop
+sample-after c = sample-walked (stretch-walked (c .before .before .before .before .before .before .before .before .before .loop .inv) (c .before .before .before .before .before .before .pass-stretch .ensures)) (c .before .before .before .if1 .taken) (c .before .if2 .left) (c .sample .ensures)
 
 pub feed-spec : {M : Type 1} → statement M
 feed-spec =
@@ -37,16 +27,14 @@ feed-spec =
     Inv-loop
     μ-loop
     (λ c. walk-begins)
+    (λ c. omega arith) (λ c. search needs) (λ c. search needs) (λ c κs. search needs)
+    (λ c. let k = stretch-walked (c .before .before .before .before .before .loop .inv) (c .before .before .pass-stretch .ensures) .within in omega (arith, c .before .before .before .before .before .before .before .good .1 .0))
     (λ c. omega arith)
-    (λ c. walk-stops fedBy (c .before .before .before .loop .inv) (c .before .before .loop-test .taken) (lt-ltb 3 _ (c .if1 .taken)))
-    (λ c κs. search needs) (λ c. omega arith) (λ c. omega arith) (λ c. search needs) (λ c. search needs) (λ c κs. search needs) (λ c κs. search needs)
-    (λ c.
-    let t = c .before .before .before .before .before .before in
-    let k = ahead-within (fed-one (t .before .before .before .before .loop .inv) (t .before .before .before .loop-test .taken) (t .before .if1 .left) (t .sample .ensures)) (c .before .before .before .before .ahead .ensures) in omega (arith, t .before .before .before .before .before .before .good .1 .0))
-    (λ c.
-    let t = c .before .before .before .before .before .before in
-    let k = ahead-within (fed-one (t .before .before .before .before .loop .inv) (t .before .before .before .loop-test .taken) (t .before .if1 .left) (t .sample .ensures)) (c .before .before .before .before .ahead .ensures) in omega (arith, t .before .before .before .before .before .before .good .1 .0))
-    stretched-on
+    (λ c. walk-stops fedBy (stretch-walked (c .before .before .before .before .before .before .before .before .loop .inv) (c .before .before .before .before .before .pass-stretch .ensures)) (c .before .before .if1 .taken) (lt-ltb 3 _ (c .if2 .taken)))
+    (λ c κs. search needs)
+    (λ c. omega (arith, c .before .before .before .before .before .before .before .before .before .before .before .good .1 .0))
     (λ c. omega arith)
-    sampled-on
+    sample-after
+    (λ c. omega arith)
+    (λ c. stretch-walked (c .before .before .before .before .before .before .loop .inv) (c .before .before .before .pass-stretch .ensures))
     (λ c. walk-out fedBy (c .before .loop .inv) (c .loop-test .left)))
