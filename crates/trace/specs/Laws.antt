@@ -24,9 +24,6 @@ module _ (s : State) (bytes : List ℕ) (item : ℕ) where
   by-tests : (a b : Bool) → ltb item 4 ≡ a → eqb item 4 ≡ b → byteStepIf a b s bytes item ≡ byteStep s bytes item
   by-tests a b ea eb = sym (ap₂ (λ (x y : Bool). byteStepIf x y s bytes item) ea eb)
 
-  pub step-samples : item < 4 → {r : State} → r ≡ sampledBy s item → served r bytes ≡ byteStep s bytes item
-  step-samples h e = ap (λ (x : State). served x bytes) e ∙ by-tests true (eqb item 4) (lt-ltb item 4 h) refl
-
   pub step-calls : item ≡ 4 → {w : Served} → w ≡ called s bytes → w ≡ byteStep s bytes item
   step-calls h e = e ∙ by-tests false true (le-ltb item 4 (omega arith)) (eq-eqb item 4 h)
 
