@@ -19,7 +19,7 @@ use Rattle.writes.specs.Writes.{writeOf}
 use Rattle.firmware.specs.declared.State.{State}
 use Rattle.firmware.specs.declared.Made.{Made}
 use Rattle.firmware.specs.declared.Made.the-variants.{Ready, Refused as NotMade}
-use Rattle.firmware.specs.Handler.{Served, served, setupOf}
+use Rattle.firmware.specs.Handler.{longestWindow, Served, served, setupOf}
 use Rattle.firmware.specs.Window.{windowFits, inBuffer}
 use Rattle.steps.specs.declared.Item.{Item}
 use Rattle.steps.specs.declared.Item.the-variants.{Call, Read, Write}
@@ -154,7 +154,7 @@ SomeAbove most items = (k : ℕ) × (k < length items) × (most < getD items k 0
 
 -- The table: why each call is refused, in the order in which that is looked at.
 abbrev pub causes : Host → DoorCall → List Cause
-causes h (setUp add n) = (NoState when (length (h .state) ≡ imageLength → ⊥)) ∷ (NoWindow when (n ≡ 0) ⊎ (256 < n)) ∷ []
+causes h (setUp add n) = (NoState when (length (h .state) ≡ imageLength → ⊥)) ∷ (NoWindow when (n ≡ 0) ⊎ (longestWindow < n)) ∷ []
 causes h (readRegister number) = (NoState when ImageOfNone (h .state)) ∷ (NoRegister when 7 < number) ∷ []
 causes h (writeRegister number value) =
     (NoState when ImageOfNone (h .state)) ∷ (NoRegister when 7 < number) ∷ (ReservedBit when SetsReserved number value)

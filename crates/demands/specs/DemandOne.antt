@@ -26,7 +26,7 @@ use Rattle.registers.specs.Values.{registerOf, valueOf, readVerdict, readOf}
 use Rattle.writes.specs.Writes.{verdictOf, writeOf}
 use Rattle.firmware.specs.declared.State.{State}
 use Rattle.firmware.specs.declared.Made.the-variants.{Ready, Refused as NotMade}
-use Rattle.firmware.specs.Handler.{Served, served, stateOf, handlerOf}
+use Rattle.firmware.specs.Handler.{longestWindow, isWindowLength, Served, served, stateOf, handlerOf}
 use Rattle.firmware.specs.Window.{windowOf}
 use Rattle.firmware.specs.Laws.{inside}
 use Rattle.steps.specs.declared.Item.{Item}
@@ -145,10 +145,12 @@ not-equal a b = (λ t. eqb-false a b (not-true (eqb a b) t), λ other. rw (ne-eq
 below : (a b : ℕ) → (ltb a b ≡ true) ↔ (a < b)
 below a b = (ltb-true a b, lt-ltb a b)
 
-n-outside : (n : ℕ) → (eqb n 0 || ltb 256 n ≡ true) ↔ ((n ≡ 0) ⊎ (256 < n))
+n-outside : (n : ℕ) → (not (isWindowLength n) ≡ true) ↔ ((n ≡ 0) ⊎ (longestWindow < n))
 n-outside n = (
-  λ t. by-test (eqb n 0) (λ e. inl (eqb-true n 0 e)) (λ e. inr (ltb-true 256 n (rw e at t))),
-  ⊎-elim (λ e. rw e) (λ h. rw (ne-eqb n 0 (λ e. omega arith), lt-ltb 256 n h)),
+  λ t.
+  by-test (leb 1 n) (λ e. inr (leb-false n longestWindow (rw e at (not-true (isWindowLength n) t))))
+  (λ e. inl (omega (arith, leb-false 1 n e))),
+  ⊎-elim (λ e. rw e) (λ h. rw (lt-leb n longestWindow h, and-false (leb 1 n))),
 )
 
 module _ (most : ℕ) (items : List ℕ) where
@@ -296,12 +298,13 @@ module _ (h : Host) where
   Looks c = FirstOf (Beside c) (causes h c) (atDoor h c .answer .refusal) (atDoor h c .answer .item)
 
   setup-looks :
-      (add n : ℕ) (s : State) (long bad : Bool) → (not long ≡ true) ↔ (length (h .state) ≡ imageLength → ⊥)
-      → (bad ≡ true) ↔ ((n ≡ 0) ⊎ (256 < n)) → let answer : Answer = setupIf long (cond bad (NotMade NoWindow) (Ready s)) (h .state) .answer in
+      (add n : ℕ) (s : State) (long good : Bool) → (not long ≡ true) ↔ (length (h .state) ≡ imageLength → ⊥)
+      → (not good ≡ true) ↔ ((n ≡ 0) ⊎ (longestWindow < n))
+      → let answer : Answer = setupIf long (cond good (Ready s) (NotMade NoWindow)) (h .state) .answer in
       FirstOf (Beside (setUp add n)) (causes h (setUp add n)) (answer .refusal) (answer .item)
-  setup-looks add n s false bad six five = here (six .0 refl) (λ e. refl, λ e. refl)
-  setup-looks add n s true true six five = later (λ g. never (six .1 g)) (here (five .0 refl) (λ e. refl, λ e. refl))
-  setup-looks add n s true false six five = later (λ g. never (six .1 g)) (later (λ g. never (five .1 g)) none)
+  setup-looks add n s false good six five = here (six .0 refl) (λ e. refl, λ e. refl)
+  setup-looks add n s true false six five = later (λ g. never (six .1 g)) (here (five .0 refl) (λ e. refl, λ e. refl))
+  setup-looks add n s true true six five = later (λ g. never (six .1 g)) (later (λ g. never (five .1 g)) none)
 
   window-looks :
       {named : ℕ → Type 0} {four : List Cause} (w : Served) (start n item : ℕ) (items : List Item) (f bad : Bool)
@@ -326,7 +329,7 @@ module _ (h : Host) where
   looked : (c : DoorCall) → Looks c
   unfolding byState
   looked (setUp add n) =
-      setup-looks add n (stateOf (setup add) (handlerOf n 0 false)) (eqb (length (h .state)) imageLength) (eqb n 0 || ltb 256 n)
+      setup-looks add n (stateOf (setup add) (handlerOf n 0 false)) (eqb (length (h .state)) imageLength) (isWindowLength n)
       (not-equal (length (h .state)) imageLength) (n-outside n)
   looked (readRegister number) =
       on-image (readRegister number) (λ e. rw e)

@@ -15,9 +15,9 @@ use Rattle.refusals.specs.declared.Refusal.the-variants.{NoWindow}
 use Rattle.mssp.specs.Module.{setup}
 use Rattle.firmware.specs.declared.State.{State}
 use Rattle.firmware.specs.declared.Made.the-variants.{Ready, Refused}
-use Rattle.firmware.specs.Handler.{Served, served, stateOf, handlerOf, acknowledged, serve, calledIf}
+use Rattle.firmware.specs.Handler.{isWindowLength, Served, served, stateOf, handlerOf, acknowledged, serve, calledIf}
 use Rattle.firmware.specs.Window.{windowOf, splice, inBuffer}
-use Rattle.firmware.specs.Laws.{inside}
+use Rattle.firmware.specs.Laws.{within-length, inside}
 use Rattle.steps.specs.declared.Item.{Item}
 use Rattle.steps.specs.Step.{afterAll}
 use Rattle.trace.specs.Run.{firstBad, byteStepIf, byteStep, itemIf, itemAt, runFrom, runOf}
@@ -44,15 +44,15 @@ madeFor add n = stateOf (setup add) (handlerOf n 0 false)
 
 module _ (bytes : List ℕ) (add n : ℕ) where
   made-if :
-      (long bad : Bool) → let o : Outcome = setupIf long (cond bad (Refused NoWindow) (Ready (madeFor add n))) bytes in
+      (long good : Bool) → let o : Outcome = setupIf long (cond good (Ready (madeFor add n)) (Refused NoWindow)) bytes in
       o .answer .refusal ≡ 0 → o ≡ outcome (done 0) (encodeOf (madeFor add n))
-  made-if false bad e = absurd (omega arith)
-  made-if true true e = absurd (omega arith)
-  made-if true false e = refl
+  made-if false good e = absurd (omega arith)
+  made-if true false e = absurd (omega arith)
+  made-if true true e = refl
 
   module _ (e : doorSetup bytes add n .answer .refusal ≡ 0) where
     setup-made : doorSetup bytes add n ≡ outcome (done 0) (encodeOf (madeFor add n))
-    setup-made = made-if (eqb (length bytes) imageLength) (eqb n 0 || ltb 256 n) e
+    setup-made = made-if (eqb (length bytes) imageLength) (isWindowLength n) e
 
     setup-valid : T (validState (madeFor add n))
     setup-valid = image-is (madeFor add n) (subst (λ (o : Outcome). Image (o .state)) setup-made (setup-leaves bytes add n e))
@@ -241,7 +241,7 @@ demand-three-at-door add start n h calls items long low high inside feeds good =
     begun = served (madeFor add n) (h .buffer)
 
     accepted : doorSetup (h .state) add n .answer .refusal ≡ 0
-    accepted = rw (eq-eqb (length (h .state)) imageLength long, ne-eqb n 0 (λ e. omega arith), le-ltb 256 n high)
+    accepted = rw (eq-eqb (length (h .state)) imageLength long, within-length n low high)
 
     begins : atDoor h (setUp add n) ≡ reply (done 0) (imageHost begun)
     begins = ap (λ (o : Outcome). reply (o .answer) (host (o .state) (h .buffer))) (setup-made (h .state) add n accepted)

@@ -6,7 +6,7 @@ use mathlib.Core.List.{List, [], _∷_, map}
 use lib.ListN.{length}
 use Rattle.memory.specs.Memory.{peeked}
 use Rattle.firmware.specs.declared.State.{State}
-use Rattle.firmware.specs.Handler.{Served, served, stateOf, memoryIn, called}
+use Rattle.firmware.specs.Handler.{longestWindow, Served, served, stateOf, memoryIn, called}
 use Rattle.firmware.specs.Window.{windowOf, splice}
 use Rattle.trace.specs.Run.{itemAt}
 use Rattle.trace.specs.Window.{SameOutside}
@@ -77,7 +77,7 @@ DemandTwo =
 -- It holds of every list of items, so after each item of a list.
 abbrev pub DemandThree : Type 0
 DemandThree =
-    (add start n : ℕ) (h : Host) (calls : List DoorCall) (items : List ℕ) → length (h .state) ≡ imageLength → 1 ≤ n → n ≤ 256
+    (add start n : ℕ) (h : Host) (calls : List DoorCall) (items : List ℕ) → length (h .state) ≡ imageLength → 1 ≤ n → n ≤ longestWindow
     → start + n ≤ length (h .buffer) → Feeds start n calls items → AllItems items
     → let after : Host = leftAfter atDoor h (setUp add n ∷ calls) in
     let joint : Joint = run n add (afresh add (windowOf start n (h .buffer))) (map itemAt items) in

@@ -46,9 +46,9 @@ pub fn handler_from(b: &[u8]) -> Handler
     }
 }
 
-// n from 1 to 256, and a pointer below it.
+// An n that a window can have, and a pointer below it.
 pub fn handler_valid(h: Handler) -> bool
     ensures { λ r. ⌜ r ≡ handlerValid h ⌝ }
 {
-    (1 <= h.n) & (h.n <= 256) & (h.pointer < h.n)
+    firmware::is_window_length(h.n as u64) & (h.pointer < h.n)
 }

@@ -1,12 +1,11 @@
 -- A state stays a state, the module and the handler: after set-up, and after every handler call, item and run.
 use Prim.Native.Nat.{ℕ, _+_, _<_}
-use mathlib.Core.Path.{_≡_, refl}
-use mathlib.Core.Bool.{Bool, true, false, true≢false, cond, _||_}
+use mathlib.Core.Path.{_≡_, refl, sym, subst}
+use mathlib.Core.Bool.{Bool, true, false, cond}
 use mathlib.Core.List.{List, [], _∷_}
 use native.Mathlib.Omega.{arith}
-use lib.Dec.{eqb, ltb}
+use lib.Dec.{T, eqb, ltb}
 use lib.ListN.{length}
-use borrow.Author.Tests.{eqb-false, ltb-false}
 use Rattle.refusals.specs.declared.Refusal.the-variants.{NoWindow}
 use Rattle.wire.specs.Wire.{sclOf, sdaOf}
 use Rattle.mssp.specs.declared.Module.{Module}
@@ -16,11 +15,12 @@ use Rattle.mssp.specs.Valid.{Valid}
 use Rattle.registers.specs.declared.Register.the-variants.{Buf}
 use Rattle.kept.specs.Kept.{setup-valid, sample-kept, read-kept, write-kept, released-kept}
 use Rattle.memory.specs.Memory.{Memory, peeked, put}
-use Rattle.memory.specs.Laws.{positive, modulo-below}
+use Rattle.memory.specs.Laws.{modulo-below}
 use Rattle.firmware.specs.declared.State.{State}
 use Rattle.firmware.specs.declared.Made.the-variants.{Ready, Refused}
-use Rattle.firmware.specs.Handler.{handlerOf, stateOf, setupOf, memoryIn, acknowledged, serve, calledIf, called}
+use Rattle.firmware.specs.Handler.{handlerOf, stateOf, isWindowLength, setupOf, memoryIn, acknowledged, serve, calledIf, called}
 use Rattle.firmware.specs.Window.{windowFits, windowOf}
+use Rattle.firmware.specs.Laws.{length-within}
 use Rattle.steps.specs.Step.{afterAll}
 use Rattle.trace.specs.Run.{firstBad, byteStepIf, byteStep, runOf}
 use Rattle.trace.specs.Window.{runChoice, runInOf}
@@ -78,23 +78,18 @@ module _ (bytes : List ℕ) where
   called-handler true false s v = serve-handler (s .mssp .live .rw) (s .mssp .live .da) (acknowledged s) v
 
 -- ---- set-up, a call, an item, a run
-neither : (a b : Bool) → a || b ≡ false → (a ≡ false) × (b ≡ false)
-neither true b h = absurd (true≢false h)
-neither false b h = (refl, h)
-
 made-if :
-    (bad : Bool) (add n : ℕ) {s : State} → eqb n 0 || ltb 256 n ≡ bad
-    → cond bad (Refused NoWindow) (Ready (stateOf (setup add) (handlerOf n 0 false))) ≡ Ready s → ValidState s
-made-if true add n e g = let z : _≡_ {A = ℕ} 0 1 = cc in absurd (omega arith)
-made-if false add n {s} e g =
+    (good : Bool) (add n : ℕ) {s : State} → isWindowLength n ≡ good
+    → cond good (Ready (stateOf (setup add) (handlerOf n 0 false))) (Refused NoWindow) ≡ Ready s → ValidState s
+made-if false add n e g = let z : _≡_ {A = ℕ} 0 1 = cc in absurd (omega arith)
+made-if true add n {s} e g =
     let is : stateOf (setup add) (handlerOf n 0 false) ≡ s = cc in
-    let out = neither (eqb n 0) (ltb 256 n) e in
-    let some : 0 < n = positive n (eqb-false n 0 (out .0)) in
-    rw (← is) (record { mssp = setup-valid add; handler = record { some = some; most = omega (arith, ltb-false 256 n (out .1)); inside = omega arith } })
+    let range = length-within n (subst T (sym e) tt) in
+    rw (← is) (record { mssp = setup-valid add; handler = record { some = range .0; most = range .1; inside = range .0 } })
 
 -- What set-up makes, whenever it makes one.
 pub setup-kept : (add n : ℕ) {s : State} → setupOf add n ≡ Ready s → ValidState s
-setup-kept add n g = made-if (eqb n 0 || ltb 256 n) add n refl g
+setup-kept add n g = made-if (isWindowLength n) add n refl g
 
 pub called-kept : (s : State) (bytes : List ℕ) → ValidState s → ValidState (called s bytes .state)
 called-kept s bytes v =
