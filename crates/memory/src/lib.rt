@@ -29,7 +29,7 @@ pub fn step(n: u16, pointer: u16) -> u16
     wrap((pointer as u32) + 1, n)
 }
 
-// The byte at the pointer.
+// The byte at the pointer, or at another place of some bytes; 0 past their end.
 pub fn peek(bytes: &[u8], pointer: u16) -> u8
     ensures { λ r. ⌜ r ≡ getD (now (bytes .entry)) pointer 0 ⌝ }
 {
