@@ -12,7 +12,7 @@ use Rattle.memory.specs.Memory.{Memory, memoryOf}
 use Rattle.firmware.specs.declared.State.{State}
 use Rattle.firmware.specs.Handler.{Served, served, stateOf, handlerOf}
 use Rattle.steps.specs.declared.Item.{Item}
-use Rattle.steps.specs.declared.Item.the-variants.{Sample, Call, Read, Write, Nothing}
+use Rattle.steps.specs.declared.Item.the-variants.{Sample, Call, Read, Write, NotAnItem}
 use Rattle.steps.specs.Step.{after}
 use Rattle.reader.specs.declared.Reader.{Reader}
 use Rattle.reader.specs.declared.Heard.{Heard}
@@ -70,7 +70,7 @@ shown j (Sample scl sda) = level (onWire (held j) scl) (onWire (pulled j) sda) �
 shown j Call = []
 shown j (Read number) = []
 shown j (Write number value) = []
-shown j Nothing = []
+shown j NotAnItem = []
 
 -- What the reader hears of that, one level at most.
 abbrev pub heardFrom : Reader → List Level → Heard

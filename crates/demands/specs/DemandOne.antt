@@ -25,7 +25,7 @@ use Rattle.registers.specs.declared.Register.the-variants.{Buf, Stat, Con1, Con
 use Rattle.registers.specs.Values.{registerOf, valueOf, readVerdict, readOf}
 use Rattle.writes.specs.Writes.{verdictOf, writeOf}
 use Rattle.firmware.specs.declared.State.{State}
-use Rattle.firmware.specs.declared.Made.the-variants.{Ready, Refused as NotMade}
+use Rattle.firmware.specs.declared.Made.the-variants.{Ready, NotMade}
 use Rattle.firmware.specs.Handler.{longestWindow, isWindowLength, Served, served, stateOf, handlerOf}
 use Rattle.firmware.specs.Window.{windowOf}
 use Rattle.firmware.specs.Laws.{inside}
@@ -36,11 +36,11 @@ use Rattle.trace.specs.Run.{firstBad, itemIf, itemAt, runOf}
 use Rattle.trace.specs.Window.{SameOutside}
 use Rattle.trace.specs.Theorems.{run-length, window-length, splice-outside}
 use Rattle.found.specs.declared.Found.{Found}
-use Rattle.found.specs.declared.Found.the-variants.{Part, Refused as NotFound}
+use Rattle.found.specs.declared.Found.the-variants.{Part, NotFound}
 use Rattle.found.specs.Numbers.{refusalOf, badItemOf, startOf, lengthOf}
-use Rattle.finder.specs.declared.Place.{Place}
-use Rattle.finder.specs.declared.Place.the-variants.{Outside, Inside}
-use Rattle.finder.specs.Messages.{placeAt, endAt}
+use Rattle.finder.specs.declared.Whereabouts.{Whereabouts}
+use Rattle.finder.specs.declared.Whereabouts.the-variants.{Outside, Inside}
+use Rattle.finder.specs.Messages.{liesAt, endAt}
 use Rattle.finder.specs.Find.{firstBadLevel, partFrom, spanIf, spanOf}
 use Rattle.image.specs.declared.Decoded.the-variants.{NoImage}
 use Rattle.image.specs.Image.{imageLength, decodeOf}
@@ -148,8 +148,8 @@ below a b = (ltb-true a b, lt-ltb a b)
 n-outside : (n : ℕ) → (not (isWindowLength n) ≡ true) ↔ ((n ≡ 0) ⊎ (longestWindow < n))
 n-outside n = (
   λ t.
-  by-test (leb 1 n) (λ e. inr (leb-false n longestWindow (rw e at (not-true (isWindowLength n) t))))
-  (λ e. inl (omega (arith, leb-false 1 n e))),
+      by-test (leb 1 n) (λ e. inr (leb-false n longestWindow (rw e at (not-true (isWindowLength n) t))))
+      (λ e. inl (omega (arith, leb-false 1 n e))),
   ⊎-elim (λ e. rw e) (λ h. rw (lt-leb n longestWindow h, and-false (leb 1 n))),
 )
 
@@ -367,8 +367,8 @@ look-looks bytes =
     (image-or-none bytes)
 
 part-looks :
-    {named : ℕ → Type 0} {list : List Cause} (place : Place) (item end : ℕ) → FirstOf named list 0 0
-    → FirstOf named list (refusalOf (partFrom place item end)) (badItemOf (partFrom place item end))
+    {named : ℕ → Type 0} {list : List Cause} (lies : Whereabouts) (item end : ℕ) → FirstOf named list 0 0
+    → FirstOf named list (refusalOf (partFrom lies item end)) (badItemOf (partFrom lies item end))
 part-looks Outside item end first = first
 part-looks (Inside start) item end first = first
 
@@ -380,7 +380,7 @@ find-looks levels item true in-it e f = above-looks 3 levels {refusal = 0} true 
 find-looks levels item false false e f =
     above-looks 3 levels false e (λ no. here (ltb-false item (length levels) (sym f)) (no-item 7 (λ q. omega arith)))
 find-looks levels item false true e f =
-    part-looks (placeAt levels item) item (endAt levels item)
+    part-looks (liesAt levels item) item (endAt levels item)
     (above-looks 3 levels false e (λ no. later (λ (g : length levels ≤ item). omega (arith, ltb-true item (length levels) (sym f))) none))
 
 found-looks : (levels : List ℕ) (item : ℕ) → let part : Parted = doorFind levels item in FirstOf (FirstAbove 3 levels) (findCauses levels item) (part .refusal) (part .item)

@@ -14,7 +14,7 @@ use Rattle.items.specs.Theorems.{before-first, first-only}
 use Rattle.refusals.specs.declared.Refusal.the-variants.{NoWindow}
 use Rattle.mssp.specs.Module.{setup}
 use Rattle.firmware.specs.declared.State.{State}
-use Rattle.firmware.specs.declared.Made.the-variants.{Ready, Refused}
+use Rattle.firmware.specs.declared.Made.the-variants.{Ready, NotMade}
 use Rattle.firmware.specs.Handler.{isWindowLength, Served, served, stateOf, handlerOf, acknowledged, serve, calledIf}
 use Rattle.firmware.specs.Window.{windowOf, splice, inBuffer}
 use Rattle.firmware.specs.Laws.{within-length, inside}
@@ -44,7 +44,7 @@ madeFor add n = stateOf (setup add) (handlerOf n 0 false)
 
 module _ (bytes : List ℕ) (add n : ℕ) where
   made-if :
-      (long good : Bool) → let o : Outcome = setupIf long (cond good (Ready (madeFor add n)) (Refused NoWindow)) bytes in
+      (long good : Bool) → let o : Outcome = setupIf long (cond good (Ready (madeFor add n)) (NotMade NoWindow)) bytes in
       o .answer .refusal ≡ 0 → o ≡ outcome (done 0) (encodeOf (madeFor add n))
   made-if false good e = absurd (omega arith)
   made-if true false e = absurd (omega arith)

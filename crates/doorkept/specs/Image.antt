@@ -24,7 +24,7 @@ use Rattle.kept.specs.Kept.{sample-kept, access-read-kept, access-write-kept}
 use Rattle.firmware.specs.declared.Handler.{Handler}
 use Rattle.firmware.specs.declared.State.{State}
 use Rattle.firmware.specs.declared.Made.{Made}
-use Rattle.firmware.specs.declared.Made.the-variants.{Ready, Refused as NotMade}
+use Rattle.firmware.specs.declared.Made.the-variants.{Ready, NotMade}
 use Rattle.firmware.specs.Handler.{isWindowLength, stateOf, setupOf}
 use Rattle.firmware.specs.Window.{windowFits, windowOf, callOf, callChoice}
 use Rattle.firmware.specs.Laws.{length-within, within-length}

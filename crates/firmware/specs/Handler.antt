@@ -11,7 +11,7 @@ use Rattle.memory.specs.Memory.{Memory, memoryOf, peeked, laidOut, put}
 use Rattle.firmware.specs.declared.Handler.{Handler}
 use Rattle.firmware.specs.declared.State.{State}
 use Rattle.firmware.specs.declared.Made.{Made}
-use Rattle.firmware.specs.declared.Made.the-variants.{Ready, Refused}
+use Rattle.firmware.specs.declared.Made.the-variants.{Ready, NotMade}
 
 abbrev pub handlerOf : ℕ → ℕ → Bool → Handler
 handlerOf n pointer due = record { n = n; pointer = pointer; due = due }
@@ -29,7 +29,7 @@ isWindowLength n = leb 1 n && leb n longestWindow
 
 -- Set up with a length that a window can have: the module chosen, the pointer 0, none due. Any other length is refused.
 abbrev pub setupOf : ℕ → ℕ → Made
-setupOf add n = cond (isWindowLength n) (Ready (stateOf (setup add) (handlerOf n 0 false))) (Refused NoWindow)
+setupOf add n = cond (isWindowLength n) (Ready (stateOf (setup add) (handlerOf n 0 false))) (NotMade NoWindow)
 
 -- What a call leaves: the state, and the bytes of the window.
 pub record Served : Type 0 where

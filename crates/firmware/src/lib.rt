@@ -25,7 +25,7 @@ pub struct State {
 
 pub enum Made {
     Ready(State),
-    Refused(Refusal),
+    NotMade(Refusal),
 }
 
 // What a call answers, and the state after it.
@@ -55,7 +55,7 @@ pub fn set_up(add: u8, n: u64) -> Made
             },
         })
     } else {
-        Made::Refused(Refusal::NoWindow)
+        Made::NotMade(Refusal::NoWindow)
     }
 }
 
@@ -89,7 +89,7 @@ fn send(s: State, window: &[u8]) -> State
     let mut h = s.handler;
     let byte = memory::peek(window, h.pointer);
     let read = mssp::pick_module(m.live.da, m, effects::empty(m));
-    h.pointer = memory::step(h.n, h.pointer);
+    h.pointer = memory::pointer_on(h.n, h.pointer);
     State {
         mssp: effects::release(effects::load(read, byte)),
         handler: h,
@@ -108,7 +108,7 @@ fn take(s: State, window: &mut [u8]) -> State
         h.pointer = memory::aim(h.n, byte);
     } else {
         memory::store(window, h.pointer, byte);
-        h.pointer = memory::step(h.n, h.pointer);
+        h.pointer = memory::pointer_on(h.n, h.pointer);
     }
     h.due = false;
     State {

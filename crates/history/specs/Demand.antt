@@ -9,7 +9,7 @@ use lib.Seq.{take-suc}
 use Rattle.kept.specs.Kept.{sample-kept, access-read-kept, access-write-kept}
 use Rattle.firmware.specs.Handler.{Served}
 use Rattle.steps.specs.declared.Item.{Item}
-use Rattle.steps.specs.declared.Item.the-variants.{Sample, Call, Read, Write, Nothing}
+use Rattle.steps.specs.declared.Item.the-variants.{Sample, Call, Read, Write, NotAnItem}
 use Rattle.steps.specs.Step.{after, afterAll}
 use Rattle.trace.specs.Run.{itemAt}
 use Rattle.runkept.specs.States.{ValidState}
@@ -38,7 +38,7 @@ item-kept w Call v = called-kept (w .state) (w .bytes) v
 item-kept w (Read number) v = record { mssp = access-read-kept (w .state .mssp) number (v .mssp); handler = v .handler }
 item-kept w (Write number value) v =
     record { mssp = access-write-kept (w .state .mssp) number value (v .mssp); handler = v .handler }
-item-kept w Nothing v = v
+item-kept w NotAnItem v = v
 
 -- After every history a state is a state.
 pub history-kept : (w : Served) (items : List ℕ) → ValidState (w .state) → ValidState (historyOf w items .state)

@@ -30,7 +30,7 @@ use Rattle.reader.specs.declared.Reader.{Reader}
 use Rattle.reader.specs.Reader.{withinFall, fallPlace, risePlace, fallHeard, heardAt, readerOf, readerAfter}
 use Rattle.steps.specs.declared.Item.{Item}
 use Rattle.steps.specs.declared.Item.the-variants.{Sample, Call, Read, Write}
-use Rattle.steps.specs.declared.Item.the-variants.{Nothing as NotAnItem}
+use Rattle.steps.specs.declared.Item.the-variants.{NotAnItem}
 use Rattle.input.specs.Laws.{found, found-short}
 use Rattle.input.specs.Input.{Parsed, all, foreign, parse}
 use Rattle.watch.specs.declared.World.{World}

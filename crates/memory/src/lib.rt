@@ -23,7 +23,7 @@ pub fn aim(n: u16, byte: u8) -> u16
 }
 
 // The pointer, one on.
-pub fn step(n: u16, pointer: u16) -> u16
+pub fn pointer_on(n: u16, pointer: u16) -> u16
     ensures { λ r. ⌜ r ≡ pointerOn n pointer ⌝ }
 {
     wrap((pointer as u32) + 1, n)

@@ -17,7 +17,7 @@ use Rattle.kept.specs.Kept.{setup-valid, sample-kept, read-kept, write-kept, re
 use Rattle.memory.specs.Memory.{Memory, peeked, put}
 use Rattle.memory.specs.Laws.{modulo-below}
 use Rattle.firmware.specs.declared.State.{State}
-use Rattle.firmware.specs.declared.Made.the-variants.{Ready, Refused}
+use Rattle.firmware.specs.declared.Made.the-variants.{Ready, NotMade}
 use Rattle.firmware.specs.Handler.{handlerOf, stateOf, isWindowLength, setupOf, memoryIn, acknowledged, serve, calledIf, called}
 use Rattle.firmware.specs.Window.{windowFits, windowOf}
 use Rattle.firmware.specs.Laws.{length-within}
@@ -80,7 +80,7 @@ module _ (bytes : List ℕ) where
 -- ---- set-up, a call, an item, a run
 made-if :
     (good : Bool) (add n : ℕ) {s : State} → isWindowLength n ≡ good
-    → cond good (Ready (stateOf (setup add) (handlerOf n 0 false))) (Refused NoWindow) ≡ Ready s → ValidState s
+    → cond good (Ready (stateOf (setup add) (handlerOf n 0 false))) (NotMade NoWindow) ≡ Ready s → ValidState s
 made-if false add n e g = let z : _≡_ {A = ℕ} 0 1 = cc in absurd (omega arith)
 made-if true add n {s} e g =
     let is : stateOf (setup add) (handlerOf n 0 false) ≡ s = cc in

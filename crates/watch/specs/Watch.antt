@@ -14,7 +14,7 @@ use Rattle.reader.specs.declared.Heard.{Heard}
 use Rattle.reader.specs.declared.Heard.the-variants.{Silence}
 use Rattle.reader.specs.Reader.{heardAt, readerAfter, readerAfresh}
 use Rattle.steps.specs.declared.Item.{Item}
-use Rattle.steps.specs.declared.Item.the-variants.{Sample, Call, Read, Write, Nothing}
+use Rattle.steps.specs.declared.Item.the-variants.{Sample, Call, Read, Write, NotAnItem}
 use Rattle.steps.specs.Step.{after}
 use Rattle.watch.specs.declared.World.{World}
 use Rattle.watch.specs.declared.Listened.{Listened}
@@ -51,7 +51,7 @@ itemSeen w (Sample scl sda) = levelSeen w scl sda
 itemSeen w Call = listenedOf (w .reader) Silence
 itemSeen w (Read number) = listenedOf (w .reader) Silence
 itemSeen w (Write number value) = listenedOf (w .reader) Silence
-itemSeen w Nothing = listenedOf (w .reader) Silence
+itemSeen w NotAnItem = listenedOf (w .reader) Silence
 
 -- State and memory are those after the item's step; beside them the reader and what it heard.
 abbrev pub sceneOf : Served → Listened → Scene
