@@ -2,27 +2,28 @@
 use Prim.Native.Nat.{ℕ, _+_, _<_}
 use mathlib.Core.Path.{_≡_, refl, sym, subst}
 use mathlib.Core.Bool.{Bool, true, false, cond}
-use mathlib.Core.List.{List, [], _∷_}
+use mathlib.Core.List.{List, [], _∷_, map}
 use native.Mathlib.Omega.{arith}
-use lib.Dec.{T, eqb, ltb}
+use lib.Dec.{T, ltb}
 use lib.ListN.{length}
 use Rattle.refusals.specs.declared.Refusal.the-variants.{NoWindow}
-use Rattle.wire.specs.Wire.{sclOf, sdaOf}
 use Rattle.mssp.specs.declared.Module.{Module}
 use Rattle.mssp.specs.Module.{setup}
 use Rattle.effects.specs.Effects.{emptied, loaded}
 use Rattle.mssp.specs.Valid.{Valid}
 use Rattle.registers.specs.declared.Register.the-variants.{Buf}
-use Rattle.kept.specs.Kept.{setup-valid, sample-kept, read-kept, write-kept, released-kept}
+use Rattle.kept.specs.Kept.{setup-valid, sample-kept, read-kept, write-kept, released-kept, access-read-kept, access-write-kept}
 use Rattle.memory.specs.Memory.{Memory, peeked, put}
 use Rattle.memory.specs.Laws.{modulo-below}
 use Rattle.firmware.specs.declared.State.{State}
 use Rattle.firmware.specs.declared.Made.the-variants.{Ready, NotMade}
-use Rattle.firmware.specs.Handler.{handlerOf, stateOf, isWindowLength, setupOf, memoryIn, acknowledged, serve, calledIf, called}
+use Rattle.firmware.specs.Handler.{Served, served, handlerOf, stateOf, isWindowLength, setupOf, memoryIn, acknowledged, serve, calledIf, called}
 use Rattle.firmware.specs.Window.{windowFits, windowOf}
 use Rattle.firmware.specs.Laws.{length-within}
-use Rattle.steps.specs.Step.{afterAll}
-use Rattle.trace.specs.Run.{firstBad, byteStepIf, byteStep, runOf}
+use Rattle.steps.specs.declared.Item.{Item}
+use Rattle.steps.specs.declared.Item.the-variants.{Sample, Call, Read, Write, NotAnItem}
+use Rattle.steps.specs.Step.{after, afterAll}
+use Rattle.trace.specs.Run.{firstBad, itemAt, runOf}
 use Rattle.trace.specs.Window.{runChoice, runInOf}
 use Rattle.runkept.specs.States.{ValidHandler, ValidState}
 
@@ -98,21 +99,22 @@ called-kept s bytes v =
       handler = called-handler bytes (s .mssp .live .sspif) (s .mssp .live .ckp) s (v .handler);
     }
 
-step-if :
-    (level call : Bool) (s : State) (bytes : List ℕ) (item : ℕ) → ValidState s
-    → ValidState (byteStepIf level call s bytes item .state)
-step-if true call s bytes item v =
-    record { mssp = sample-kept (s .mssp) (sclOf item) (sdaOf item) (v .mssp); handler = v .handler }
-step-if false true s bytes item v = called-kept s bytes v
-step-if false false s bytes item v = v
+-- An item of any kind, and items one after the other.
+pub item-kept : (w : Served) (item : Item) → ValidState (w .state) → ValidState (after w item .state)
+item-kept w (Sample scl sda) v = record { mssp = sample-kept (w .state .mssp) scl sda (v .mssp); handler = v .handler }
+item-kept w Call v = called-kept (w .state) (w .bytes) v
+item-kept w (Read number) v = record { mssp = access-read-kept (w .state .mssp) number (v .mssp); handler = v .handler }
+item-kept w (Write number value) v =
+    record { mssp = access-write-kept (w .state .mssp) number value (v .mssp); handler = v .handler }
+item-kept w NotAnItem v = v
 
-pub step-kept : (s : State) (bytes : List ℕ) (item : ℕ) → ValidState s → ValidState (byteStep s bytes item .state)
-step-kept s bytes item v = step-if (ltb item 4) (eqb item 4) s bytes item v
+pub items-kept : (w : Served) (items : List Item) → ValidState (w .state) → ValidState (afterAll w items .state)
+unfolding afterAll
+items-kept w [] v = v
+items-kept w (item ∷ items) v = items-kept (after w item) items (item-kept w item v)
 
 pub run-kept : (s : State) (bytes items : List ℕ) → ValidState s → ValidState (runOf s bytes items .state)
-unfolding afterAll
-run-kept s bytes [] v = v
-run-kept s bytes (x ∷ xs) v = run-kept (byteStep s bytes x .state) (byteStep s bytes x .bytes) xs (step-kept s bytes x v)
+run-kept s bytes items v = items-kept (served s bytes) (map itemAt items) v
 
 run-in-if :
     (fits bad : Bool) (s : State) (buffer : List ℕ) (start n : ℕ) (items : List ℕ) → ValidState s
