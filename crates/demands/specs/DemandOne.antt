@@ -2,7 +2,7 @@
 use Prim.Native.Nat.{ℕ, zero, suc, _+_, _*_, _/_, _%_, _<_, _≤_}
 use mathlib.Core.Logic.{_⊎_, inl, inr, ⊎-elim, _↔_}
 use mathlib.Core.Path.{_≡_, refl, sym, ap, ap₂, subst, _∙_}
-use mathlib.Core.Bool.{Bool, true, false, true≢false, cond, _&&_, _||_, not, and-false}
+use mathlib.Core.Bool.{Bool, true, false, true≢false, cond, _&&_, not, and-false}
 use mathlib.Core.List.{List, [], _∷_, map}
 use native.Mathlib.Omega.{arith}
 use native.Mathlib.Nat.{div-one, div-div-eq-div-mul}
@@ -10,8 +10,8 @@ use lib.Dec.{eqb, leb, ltb}
 use lib.ListN.{length}
 use borrow.Author.Tests.{eqb-true, eqb-false, eq-eqb, ne-eqb, leb-false, lt-leb, ltb-true, ltb-false, lt-ltb, le-ltb, not-true}
 use Rattle.truth.specs.Tests.{never, by-test, and-first, and-second}
-use Rattle.items.specs.First.{firstAbove}
-use Rattle.items.specs.Theorems.{before-first, at-first}
+use Rattle.items.specs.First.{firstAbove, FirstAbove}
+use Rattle.items.specs.Theorems.{first-above, none-above}
 use Rattle.refusals.specs.declared.Refusal.{Refusal}
 use Rattle.refusals.specs.declared.Refusal.the-variants.{NoState, ReservedBit, NoMode, NoWindow, NoItem}
 use Rattle.refusals.specs.declared.Verdict.{Verdict}
@@ -50,7 +50,7 @@ use Rattle.door.specs.declared.Part.{Part as Parted}
 use Rattle.door.specs.Outcome.{refused, byState}
 use Rattle.door.specs.Door.{setupIf, doorLook, doorFind}
 use Rattle.door.specs.Theorems.{one-lent, setup-keeps, read-keeps, write-keeps, sample-keeps, call-keeps, run-keeps}
-use Rattle.demands.specs.Calls.{DoorCall, setUp, readRegister, writeRegister, feedSample, callHandler, runTrace, Host, host, reply, atDoor, told, inWindow, hasWindow, byDefinition, ImageOf, ImageOfNone, SetsReserved, SetsNoMode, SetUpFor, FitsNot, SomeAbove, Cause, _when_, causes, lookCauses, findCauses, Numbered, FirstAbove, OnlyBeside, Beside}
+use Rattle.demands.specs.Calls.{DoorCall, setUp, readRegister, writeRegister, feedSample, callHandler, runTrace, Host, host, reply, atDoor, told, inWindow, hasWindow, byDefinition, ImageOf, ImageOfNone, SetsReserved, SetsNoMode, SetUpFor, FitsNot, SomeAbove, Cause, _when_, causes, lookCauses, findCauses, Numbered, OnlyBeside, Beside}
 use Rattle.demands.specs.Demands.{OneOutcome, RefusedKeeps, OutsideKept, ExactCauses, ItemBeside, DemandOne}
 use Rattle.demands.specs.DemandTwo.{image-or-none, by-image}
 
@@ -154,20 +154,17 @@ n-outside n = (
 )
 
 module _ (most : ℕ) (items : List ℕ) where
-  first-above : ltb (firstAbove most items) (length items) ≡ true → FirstAbove most items (firstAbove most items)
-  first-above t =
-      let h = ltb-true (firstAbove most items) (length items) t in
-      record { within = h; above = at-first most items h; before = before-first most items }
+  is-first : ltb (firstAbove most items) (length items) ≡ true → FirstAbove most items (firstAbove most items)
+  is-first t = first-above most items (ltb-true (firstAbove most items) (length items) t)
 
   some-above : (ltb (firstAbove most items) (length items) ≡ true) ↔ SomeAbove most items
   some-above = (
-    λ t. let k = first-above t in (firstAbove most items, k .within, k .above),
+    λ t. let k = is-first t in (firstAbove most items, k .within, k .above),
     λ k.
         by-test (ltb (firstAbove most items) (length items)) (λ t. t)
         (λ t.
         let h = ltb-false (firstAbove most items) (length items) t in
-        let l : k .0 < length items = k .1 in
-        absurd (omega (arith, before-first most items (k .0) (omega arith), k .2))),
+        absurd (omega (arith, none-above most items h (k .0) (k .1), k .2))),
   )
 
 fits-not :
@@ -290,7 +287,7 @@ above-looks :
     (most : ℕ) (items : List ℕ) {rest : List Cause} {refusal : ℕ} (bad : Bool) → bad ≡ ltb (firstAbove most items) (length items)
     → (bad ≡ false → FirstOf (FirstAbove most items) rest refusal 0)
     → FirstOf (FirstAbove most items) ((NoItem when SomeAbove most items) ∷ rest) (cond bad 4 refusal) (cond bad (firstAbove most items) 0)
-above-looks most items true e more = here (some-above most items .0 (sym e)) (λ q. first-above most items (sym e), λ q. absurd (q refl))
+above-looks most items true e more = here (some-above most items .0 (sym e)) (λ q. is-first most items (sym e), λ q. absurd (q refl))
 above-looks most items false e more = later (λ g. true≢false (sym (some-above most items .1 g) ∙ sym e)) (more refl)
 
 module _ (h : Host) where

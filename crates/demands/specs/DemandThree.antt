@@ -8,9 +8,9 @@ use native.Mathlib.Omega.{arith}
 use lib.Dec.{T, eqb, ltb}
 use lib.ListN.{length, take, drop, take-append-drop, length-append, length-drop, List·getD-append}
 use lib.Seq.{length-take-le, take-at, drop-at, getD-append-add}
-use borrow.Author.Tests.{ne-eqb, ltb-false, lt-ltb, le-ltb, eq-eqb, le-leb}
+use borrow.Author.Tests.{ltb-false, lt-ltb, le-ltb, eq-eqb, le-leb}
 use Rattle.truth.specs.Tests.{by-test}
-use Rattle.items.specs.Theorems.{before-first, first-only}
+use Rattle.items.specs.Theorems.{none-above, none-first}
 use Rattle.refusals.specs.declared.Refusal.the-variants.{NoWindow}
 use Rattle.mssp.specs.Module.{setup}
 use Rattle.firmware.specs.declared.State.{State}
@@ -111,12 +111,10 @@ run-n s bytes (x ∷ xs) = run-n (byteStep s bytes x .state) (byteStep s bytes x
 
 -- Every item is one.
 none-bad : (items : List ℕ) → AllItems items → ltb (firstBad items) (length items) ≡ false
-none-bad items good =
-    let e = first-only 4 items (length items) (omega arith) good (λ h. absurd (omega arith)) in
-    le-ltb (firstBad items) (length items) (omega arith)
+none-bad items good = le-ltb (firstBad items) (length items) (omega (arith, none-first 4 items good))
 
 all-good : (items : List ℕ) → ltb (firstBad items) (length items) ≡ false → AllItems items
-all-good items e k h = let l = ltb-false (firstBad items) (length items) e in before-first 4 items k (omega arith)
+all-good items e = none-above 4 items (ltb-false (firstBad items) (length items) e)
 
 module _ (xs ys : List ℕ) (good : AllItems (xs ++ ys)) where
   good-first : AllItems xs

@@ -4,6 +4,7 @@ use Prim.Native.Nat.{ℕ, _+_, _<_, _≤_}
 use mathlib.Core.Path.{_≡_}
 use mathlib.Core.List.{List, [], _∷_, map}
 use lib.ListN.{length}
+use Rattle.items.specs.First.{FirstAbove}
 use Rattle.memory.specs.Memory.{peeked}
 use Rattle.firmware.specs.declared.State.{State}
 use Rattle.firmware.specs.Handler.{longestWindow, Served, served, stateOf, memoryIn, called}
@@ -17,7 +18,7 @@ use Rattle.door.specs.declared.Answer.{Answer}
 use Rattle.door.specs.declared.Part.{Part}
 use Rattle.door.specs.Outcome.{done}
 use Rattle.door.specs.Door.{doorLook, doorFind}
-use Rattle.demands.specs.Calls.{DoorCall, setUp, readRegister, callHandler, runTrace, Host, answers, leftAfter, Allows, atDoor, byDefinition, ImageOf, causes, lookCauses, findCauses, Exactly, FirstAbove, OnlyBeside, Beside, AllItems, Feeds, firmware}
+use Rattle.demands.specs.Calls.{DoorCall, setUp, readRegister, callHandler, runTrace, Host, answers, leftAfter, Allows, atDoor, byDefinition, ImageOf, causes, lookCauses, findCauses, Exactly, OnlyBeside, Beside, AllItems, Feeds, firmware}
 
 -- ---- DEMAND 1: every call has one outcome, changes only what it may, and refuses by number, exactly for the causes of the table
 -- Only one answer fits a call's contract, with one state and one buffer. (What look and find answer is an equation as it stands.)

@@ -6,6 +6,7 @@ use mathlib.Core.List.{List}
 use mathlib.Core.Logic.{_⊎_}
 use mathlib.Core.Bool.{Bool, true, false, cond, _||_}
 use lib.ListN.{length, getD}
+use Rattle.items.specs.First.{FirstAbove, NoneAbove}
 use Rattle.wire.specs.declared.Line.{Line}
 use Rattle.wire.specs.declared.Edge.{Edge}
 use Rattle.wire.specs.declared.Edge.the-variants.{Still, Start, Stop, Rise, Fall}
@@ -86,15 +87,12 @@ pub record IsMessage (levels : List ℕ) (start last : ℕ) : Type 0 where
   pub within : last < length levels
   pub ends : (stopAt levels last ≡ true) ⊎ ((startAt levels (suc last) ≡ true) ⊎ (suc last ≡ length levels))
 
--- Every level of the record is one of the four.
+-- Every level of the record is one of the four; the first item whose level is none of them.
 abbrev pub Good : List ℕ → Type 0
-Good levels = (k : ℕ) → k < length levels → levelAt levels k ≤ 3
+Good levels = NoneAbove 3 levels
 
--- The first item whose level is none of them.
-pub record FirstBad (levels : List ℕ) (item : ℕ) : Type 0 where
-  pub within : item < length levels
-  pub bad : 3 < levelAt levels item
-  pub good : (k : ℕ) → k < item → levelAt levels k ≤ 3
+abbrev pub FirstBad : List ℕ → ℕ → Type 0
+FirstBad levels item = FirstAbove 3 levels item
 
 -- The item lies in no message.
 abbrev pub InNoMessage : List ℕ → ℕ → Type 0

@@ -1,71 +1,46 @@
 -- What the finder's answers are, whatever the record and the item (01, "The wire record and the message under the
 -- cursor", and refusals 4 and 7): a part is exactly the message, each of its items finds it, an item in no message has
 -- the empty part, and each refusal has its one cause.
-use Prim.Native.Nat.{ℕ, zero, suc, _+_, _-_, _<_, _≤_}
+use Prim.Native.Nat.{ℕ, suc, _+_, _-_, _<_, _≤_}
 use mathlib.Core.Path.{_≡_, refl, sym, ap, _∙_}
-use mathlib.Core.List.{List, [], _∷_}
+use mathlib.Core.List.{List}
 use mathlib.Core.Logic.{_⊎_, inl, inr, ⊎-elim, _↔_}
-use mathlib.Core.Bool.{Bool, true, false, cond}
 use native.Mathlib.Omega.{arith}
 use native.Mathlib.Decide.{decLt}
 use lib.ListN.{length}
-use lib.Dec.{leb}
-use borrow.Author.Tests.{leb-true, leb-false}
 use Rattle.refusals.specs.declared.Refusal.{Refusal}
 use Rattle.refusals.specs.declared.Refusal.the-variants.{NoItem, PastRecord}
 use Rattle.finder.specs.declared.Whereabouts.{Whereabouts}
 use Rattle.finder.specs.declared.Whereabouts.the-variants.{Outside, Inside}
 use Rattle.found.specs.declared.Found.the-variants.{Part, NotFound}
-use Rattle.finder.specs.Messages.{levelAt, liesAt, endAt, IsMessage, Good, FirstBad, InNoMessage, TheMessage}
-use Rattle.items.specs.First.{span}
+use Rattle.finder.specs.Messages.{liesAt, endAt, IsMessage, Good, FirstBad, InNoMessage, TheMessage}
+use Rattle.items.specs.Theorems.{first-above, none-above, one-first}
 use Rattle.finder.specs.Find.{firstBadLevel, partFrom, messagePart, spanOf}
 use Rattle.finder.specs.Extent.{outside-inside, whole-message, item-inside}
 use Rattle.finder.specs.Laws.{span-bad, span-past, span-part}
 
--- The three ways a searched goes, each with its cause. One of the causes always holds, and no two hold together.
+-- The three ways a search goes, each with its cause. One of the causes always holds, and no two hold together.
 pub data Searched (levels : List ℕ) (item : ℕ) : Type 0 where
   four : (bad : ℕ) → FirstBad levels bad → spanOf levels item ≡ NotFound NoItem bad → Searched levels item
   seven : Good levels → length levels ≤ item → spanOf levels item ≡ NotFound PastRecord 0 → Searched levels item
   given : Good levels → item < length levels → spanOf levels item ≡ messagePart levels item → Searched levels item
 
 not-good : {levels : List ℕ} {bad : ℕ} → FirstBad levels bad → Good levels → ⊥
-not-good {bad = bad} f g = let b = f .bad in let h = g bad (f .within) in omega arith
+not-good {bad = bad} f g = let b = f .above in let h = g bad (f .within) in omega arith
 
--- `firstBadLevel` counts the items before the first bad one, or all.
-Counted : List ℕ → ℕ → Type 0
-Counted levels n = FirstBad levels n ⊎ ((n ≡ length levels) × Good levels)
-
-count-step : (level : ℕ) (levels : List ℕ) (n : ℕ) (t : Bool) → leb level 3 ≡ t → Counted levels n
-    → Counted (level ∷ levels) (cond t (suc n) zero)
-unfolding Counted
-count-step level levels n true e (inl f) = inl (record { within = omega (arith, f .within); bad = f .bad; good = before })
-  where
-    before : (k : ℕ) → k < suc n → levelAt (level ∷ levels) k ≤ 3
-    before zero h = leb-true level 3 e
-    before (suc k) h = f .good k (omega arith)
-count-step level levels n true e (inr (s, g)) = inr (ap suc s, all)
-  where
-    all : (k : ℕ) → k < suc (length levels) → levelAt (level ∷ levels) k ≤ 3
-    all zero h = leb-true level 3 e
-    all (suc k) h = g k (omega arith)
-count-step level levels n false e c =
-    inl (record { within = omega arith; bad = leb-false level 3 e; good = λ k h. absurd (omega arith) })
-
-counted : (levels : List ℕ) → Counted levels (firstBadLevel levels)
-unfolding Counted span
-counted [] = inr (refl, λ k h. absurd (omega arith))
-counted (level ∷ levels) = count-step level levels (firstBadLevel levels) (leb level 3) refl (counted levels)
-
-good-searched : (levels : List ℕ) (item : ℕ) → firstBadLevel levels ≡ length levels → Good levels → Dec (item < length levels) → Searched levels item
-good-searched levels item e g (yes h) = given g h (sym (span-part levels item refl (omega arith) h))
-good-searched levels item e g (no h) = seven g (omega arith) (sym (span-past levels item refl (omega arith) (omega arith)))
+good-searched :
+    (levels : List ℕ) (item : ℕ) → length levels ≤ firstBadLevel levels → Good levels → Dec (item < length levels) → Searched levels item
+good-searched levels item e g (yes h) = given g h (sym (span-part levels item refl e h))
+good-searched levels item e g (no h) = seven g (omega arith) (sym (span-past levels item refl e (omega arith)))
 
 pub searched : (levels : List ℕ) (item : ℕ) → Searched levels item
-unfolding Counted
-searched levels item =
-    ⊎-elim (λ (f : FirstBad levels (firstBadLevel levels)). four (firstBadLevel levels) f (sym (span-bad levels item refl (f .within))))
-    (λ (g : (firstBadLevel levels ≡ length levels) × Good levels). good-searched levels item (g .0) (g .1) (decLt item (length levels)))
-    (counted levels)
+searched levels item = by-first (decLt (firstBadLevel levels) (length levels))
+  where
+    by-first : Dec (firstBadLevel levels < length levels) → Searched levels item
+    by-first (yes h) = four (firstBadLevel levels) (first-above 3 levels h) (sym (span-bad levels item refl h))
+    by-first (no h) =
+        let e : length levels ≤ firstBadLevel levels = omega arith in
+        good-searched levels item e (none-above 3 levels e) (decLt item (length levels))
 
 -- A message's part is no refusal.
 not-refused : (lies : Whereabouts) (item end : ℕ) {why : Refusal} {bad : ℕ} → partFrom lies item end ≡ NotFound why bad → ⊥
@@ -141,17 +116,6 @@ in-no-part levels item g h n =
     no-message levels item g h
     (λ start last m s l. n item start (suc last - start) (message-is-part levels item g m s l) s (omega arith))
 
--- There is one first bad item.
-not-before : {levels : List ℕ} {bad other : ℕ} → FirstBad levels bad → FirstBad levels other → Dec (bad < other) → other ≤ bad
-not-before {bad = bad} f o (yes h) = let b = f .bad in let g = o .good bad h in absurd (omega arith)
-not-before f o (no h) = omega arith
-
-one-first-bad : {levels : List ℕ} {bad other : ℕ} → FirstBad levels bad → FirstBad levels other → bad ≡ other
-one-first-bad {bad = bad} {other = other} f o =
-    let h = not-before f o (decLt bad other) in
-    let g = not-before o f (decLt other bad) in
-    omega arith
-
 -- 4. Refusal 4 is given exactly when a level is bad, with the first bad item's number, whatever the item asked for.
 pub four-exactly : (levels : List ℕ) (item bad : ℕ) → spanOf levels item ≡ NotFound NoItem bad ↔ FirstBad levels bad
 four-exactly levels item bad = (λ e. why (searched levels item) e, λ f. then (searched levels item) f)
@@ -162,7 +126,7 @@ four-exactly levels item bad = (λ e. why (searched levels item) e, λ f. then (
     why (given g h p) e = absurd (not-refused (liesAt levels item) item (endAt levels item) (sym p ∙ e))
 
     then : Searched levels item → FirstBad levels bad → spanOf levels item ≡ NotFound NoItem bad
-    then (four other o p) f = p ∙ ap (NotFound NoItem) (one-first-bad o f)
+    then (four other o p) f = p ∙ ap (NotFound NoItem) (one-first o ∙ sym (one-first f))
     then (seven g h p) f = absurd (not-good f g)
     then (given g h p) f = absurd (not-good f g)
 

@@ -1,6 +1,6 @@
 -- The first item of a kind (01, "Calls, refusals and their order"): how many items stand before it. The number of the first
 -- item out of range goes beside refusal 4.
-use Prim.Native.Nat.{ℕ, suc, _+_, _≤_}
+use Prim.Native.Nat.{ℕ, suc, _+_, _<_, _≤_}
 use mathlib.Core.Path.{_≡_}
 use mathlib.Core.Bool.{Bool, cond, _&&_}
 use mathlib.Core.List.{List, [], _∷_}
@@ -15,6 +15,15 @@ span good (item ∷ items) = cond (good item) (suc (span good items)) 0
 -- Before the first one above `most`.
 abbrev pub firstAbove : ℕ → List ℕ → ℕ
 firstAbove most items = span (λ (x : ℕ). leb x most) items
+
+-- What it is to be that one, said of the items themselves: none before it is above `most`.
+pub record FirstAbove (most : ℕ) (items : List ℕ) (k : ℕ) : Type 0 where
+  pub within : k < length items
+  pub above : most < getD items k 0
+  pub before : (i : ℕ) → i < k → getD items i 0 ≤ most
+
+abbrev pub NoneAbove : ℕ → List ℕ → Type 0
+NoneAbove most items = (k : ℕ) → k < length items → getD items k 0 ≤ most
 
 -- As many as are equal to one item from the start on.
 abbrev pub sames : ℕ → List ℕ → ℕ

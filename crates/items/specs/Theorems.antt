@@ -7,7 +7,7 @@ use native.Mathlib.Omega.{arith}
 use lib.Dec.{leb, ltb}
 use lib.ListN.{length, getD}
 use borrow.Author.Tests.{leb-true, leb-false, ltb-true, ltb-false}
-use Rattle.items.specs.First.{span, firstAbove}
+use Rattle.items.specs.First.{span, firstAbove, FirstAbove, NoneAbove}
 
 within-if : (good : Bool) (k n : ℕ) → k ≤ n → cond good (suc k) 0 ≤ suc n
 within-if true k n h = omega arith
@@ -46,6 +46,14 @@ unfolding span
 at-first most [] h = absurd (omega arith)
 at-first most (x ∷ xs) h = at-if most (leb x most) x xs (firstAbove most xs) refl (at-first most xs) h
 
+-- So there is a first one, or none.
+module _ (most : ℕ) (items : List ℕ) where
+  pub first-above : firstAbove most items < length items → FirstAbove most items (firstAbove most items)
+  first-above h = record { within = h; above = at-first most items h; before = before-first most items }
+
+  pub none-above : length items ≤ firstAbove most items → NoneAbove most items
+  none-above h k l = before-first most items k (omega arith)
+
 -- No other number is: before it items, at it none or the trace's end.
 pub first-only :
     (most : ℕ) (items : List ℕ) (k : ℕ) → k ≤ length items → ((i : ℕ) → i < k → getD items i 0 ≤ most)
@@ -67,3 +75,9 @@ first-only most items k h f g = earlier (ltb k (firstAbove most items)) refl
         let b = g (omega (arith, first-within most items)) in
         absurd (omega arith)
     earlier false e = later (ltb (firstAbove most items) k) refl (ltb-false k (firstAbove most items) e)
+
+pub one-first : {most : ℕ} {items : List ℕ} {k : ℕ} → FirstAbove most items k → k ≡ firstAbove most items
+one-first {most} {items} {k} f = let w = f .within in first-only most items k (omega arith) (f .before) (λ h. f .above)
+
+pub none-first : (most : ℕ) (items : List ℕ) → NoneAbove most items → length items ≡ firstAbove most items
+none-first most items none = first-only most items (length items) (omega arith) none (λ h. absurd (omega arith))
