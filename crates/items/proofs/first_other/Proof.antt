@@ -6,7 +6,7 @@ use lib.Dec.{eqb}
 use lib.ListN.{length}
 use borrow.Author.Tests.{eq-eqb, ne-eqb}
 use Rattle.items.specs.First.{Reached}
-use Rattle.items.specs.Laws.{span-end, reach-begins, reach-on, reach-here, reach-end}
+use Rattle.items.specs.Laws.{leading-end, reach-begins, reach-on, reach-here, reach-end}
 use Rattle.items.proofs.first_other.Statement.{statement}
 use Rattle.items.proofs.first_other.Tie as tie
 
@@ -24,7 +24,7 @@ first-other-spec =
     μ-loop
     (λ c. omega arith)
     (λ c. reach-here (reach-begins (omega arith)) (omega arith) (ne-eqb _ _ (c .if2 .taken)))
-    (λ c. sym (span-end (λ (x : ℕ). eqb x (c .before .before .before .args .item)) _ (c .before .before .before .args .from) (omega arith)))
+    (λ c. sym (leading-end (λ (x : ℕ). eqb x (c .before .before .before .args .item)) _ (c .before .before .before .args .from) (omega arith)))
     (λ c κs. omega arith)
     (λ c. c .past-same .ensures)
     (λ c. omega arith)
