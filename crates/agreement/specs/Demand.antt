@@ -4,11 +4,10 @@ use Prim.Native.Nat.{ℕ, _≤_}
 use mathlib.Core.Path.{_≡_, refl}
 use mathlib.Core.Bool.{true, false}
 use mathlib.Core.List.{List}
-use native.Mathlib.Omega.{arith}
 use lib.ListN.{length}
-use borrow.Author.Tests.{ne-eqb, le-ltb}
 use Rattle.firmware.specs.declared.Made.the-variants.{Ready}
-use Rattle.firmware.specs.Handler.{setupOf}
+use Rattle.firmware.specs.Handler.{longestWindow, setupOf}
+use Rattle.firmware.specs.Laws.{within-length}
 use Rattle.steps.specs.declared.Item.{Item}
 use Rattle.agreement.specs.Joint.{Joint, run, afresh, SamplesAndCalls, SameMemory, EndedByOneCall, PulledWhereOwed, HeldAfterAcknowledge, Agrees}
 use Rattle.course.specs.Course.{held-address, held-byte, held-load, runs, waits}
@@ -57,8 +56,6 @@ demand-three add bytes items p =
 
 -- The joint run begins with what setup makes, for each of the lengths that it takes.
 pub begins-with-setup :
-    (add : ℕ) (bytes : List ℕ) → 1 ≤ length bytes → length bytes ≤ 256
+    (add : ℕ) (bytes : List ℕ) → 1 ≤ length bytes → length bytes ≤ longestWindow
     → setupOf add (length bytes) ≡ Ready (afresh add bytes .state)
-begins-with-setup add bytes low high =
-    let z : length bytes ≡ 0 → ⊥ = λ e. omega arith in
-    simp (ne-eqb (length bytes) 0 z, le-ltb 256 (length bytes) high)
+begins-with-setup add bytes low high = rw (within-length (length bytes) low high)

@@ -5,21 +5,21 @@ use mathlib.Core.Path.{_≡_}
 use mathlib.Core.Bool.{Bool, true, false, cond}
 use mathlib.Core.List.{List, [], _∷_, _++_}
 use lib.ListN.{length}
-use Rattle.wire.specs.Wire.{edgeOf, onWire, sclHigh}
+use Rattle.wire.specs.Wire.{onWire, sclHigh}
 use Rattle.mssp.specs.Module.{setup}
 use Rattle.mssp.specs.Drivers.{sclPulled, sdaPulled}
 use Rattle.memory.specs.Memory.{Memory, memoryOf}
 use Rattle.firmware.specs.declared.State.{State}
 use Rattle.firmware.specs.Handler.{Served, served, stateOf, handlerOf}
 use Rattle.steps.specs.declared.Item.{Item}
-use Rattle.steps.specs.declared.Item.the-variants.{Sample, Call, Read, Write, Nothing}
+use Rattle.steps.specs.declared.Item.the-variants.{Sample, Call, Read, Write, NotAnItem}
 use Rattle.steps.specs.Step.{after}
 use Rattle.reader.specs.declared.Reader.{Reader}
 use Rattle.reader.specs.declared.Heard.{Heard}
 use Rattle.reader.specs.declared.Heard.the-variants.{Silence, Started, Stopped, Byte}
 use Rattle.plain.specs.declared.Turn.the-variants.{Off}
-use Rattle.reader.specs.Reader.{heardAt, readerAfresh}
-use Rattle.reader.specs.Record.{Level, level, readAll}
+use Rattle.reader.specs.Reader.{readerAfresh}
+use Rattle.reader.specs.Record.{Level, level, heardOne, readAll}
 use Rattle.plain.specs.Device.{Plain, plainOf, hears, owes}
 
 -- Module and handler with the bytes of their window; the plain reader; the plain device; its memory before the last byte,
@@ -70,12 +70,12 @@ shown j (Sample scl sda) = level (onWire (held j) scl) (onWire (pulled j) sda) �
 shown j Call = []
 shown j (Read number) = []
 shown j (Write number value) = []
-shown j Nothing = []
+shown j NotAnItem = []
 
 -- What the reader hears of that, one level at most.
 abbrev pub heardFrom : Reader → List Level → Heard
 heardFrom r [] = Silence
-heardFrom r (level scl sda ∷ levels) = heardAt (r .place) (edgeOf (r .line) scl sda)
+heardFrom r (w ∷ levels) = heardOne r w
 
 abbrev pub heardIn : Joint → Item → Heard
 heardIn j item = heardFrom (j .reader) (shown j item)

@@ -4,7 +4,6 @@ use Prim.Native.Nat.{ℕ, _<_}
 use mathlib.Core.Path.{_≡_}
 use mathlib.Core.Bool.{Bool, true, false}
 use Rattle.wire.specs.declared.Bits.{Bits}
-use Rattle.wire.specs.declared.Line.{Line}
 use Rattle.wire.specs.declared.Remembered.{Remembered}
 use Rattle.wire.specs.declared.Remembered.the-variants.{Wire}
 use Rattle.wire.specs.Byte.{bit, none, pushed}
@@ -22,7 +21,7 @@ use Rattle.reader.specs.declared.Place.the-variants.{Idle, Within, Ending}
 use Rattle.reader.specs.declared.Heard.{Heard}
 use Rattle.reader.specs.declared.Heard.the-variants.{Silence, Started, Stopped, Byte}
 use Rattle.reader.specs.declared.Reader.{Reader}
-use Rattle.reader.specs.Reader.{readerOf}
+use Rattle.reader.specs.Reader.{line, readerOf}
 use Rattle.plain.specs.declared.Turn.{Turn}
 use Rattle.plain.specs.declared.Turn.the-variants.{Off, Writing, Reading}
 use Rattle.plain.specs.Device.{own}
@@ -117,9 +116,6 @@ pub data Waits : Task → ℕ → Bool → Bool → Bool → Phase → Type 0 wh
 -- ---- module and reader: they remember one line; SSPOV is never set; CKP tells a hold, which SSPIF has told of
 abbrev pub flags : ℕ → Bool → Bool → Bool → Bool → Bool → Bool → Bool → Bool → Bool → Live
 flags buf bf da rw ckp sspif ackstat acktim s p = liveOf s p da rw bf false ckp ackstat acktim sspif buf
-
-abbrev pub line : Remembered → Bool → Line
-line seen mark = record { remembered = seen; mark = mark }
 
 pub data Follows (add : ℕ) (c : Config) : Course → Module → Reader → Type 0 where
   runs :

@@ -27,9 +27,9 @@ use Rattle.reader.specs.declared.Ninth.the-variants.{Waiting, Got}
 use Rattle.reader.specs.declared.Place.{Place}
 use Rattle.reader.specs.declared.Heard.the-variants.{Silence}
 use Rattle.reader.specs.declared.Reader.{Reader}
-use Rattle.reader.specs.Reader.{readerOf, withinFall, fallPlace, fallHeard, risePlace, placeAfter, heardAt, readerAfter}
+use Rattle.reader.specs.Reader.{line, readerOf, withinFall, fallPlace, fallHeard, risePlace, placeAfter, heardAt, readerAfter, heardOf}
 use Rattle.plain.specs.Device.{own, owes}
-use Rattle.course.specs.Course.{AnswersAlone, Kind, off, turnOf, Course, free, unheard, start, stop, others-address, others-byte, write-address, read-address, written, read-on, read-out, Apart, idle, within, not-ours, passing, own-address, write-byte, Runs, apart, addressing, slot-low, slot-high, taking, sent-low, sent-high, asked-low, asked-high, held-address, held-byte, held-load, flags, line, Follows, runs, waits, Led, to}
+use Rattle.course.specs.Course.{AnswersAlone, Kind, off, turnOf, Course, free, unheard, start, stop, others-address, others-byte, write-address, read-address, written, read-on, read-out, Apart, idle, within, not-ours, passing, own-address, write-byte, Runs, apart, addressing, slot-low, slot-high, taking, sent-low, sent-high, asked-low, asked-high, held-address, held-byte, held-load, flags, Follows, runs, waits, Led, to}
 
 -- Setup's configuration, with MSK FF and no general call, answers where bits 7 to 1 are ADD's.
 pub setup-answers : (add : ℕ) → AnswersAlone add (chosen add)
@@ -178,7 +178,7 @@ seen-enabled m scl sda e = ap (λ (on : Bool). seenIf on m scl sda) e
 pub sample-follows :
     {add : ℕ} {c : Config} {w : Course} {m : Module} {r : Reader} (l d : Bool) → AnswersAlone add c → Follows add c w m r
     → (let scl : Bool = onWire (sclPulled (m .phase)) l in let sda : Bool = onWire (sdaPulled (m .phase)) d in
-    Led add c w (heardAt (r .place) (edgeOf (r .line) scl sda)) (sampled m l d) (readerAfter r scl sda))
+    Led add c w (heardOf r scl sda) (sampled m l d) (readerAfter r scl sda))
 unfolding readerAtEdge
 sample-follows {m = m} l d a (runs {mark = mark} {ph = ph} {z = z} f) =
     let scl : Bool = onWire (sclPulled ph) l in

@@ -4,67 +4,43 @@ use Prim.Native.Nat.{ℕ}
 use mathlib.Core.Path.{_≡_, refl, sym, ap, _∙_}
 use mathlib.Core.Bool.{Bool, true, false}
 use mathlib.Core.List.{List, [], _∷_, _++_}
-use Rattle.wire.specs.declared.Line.{Line}
 use Rattle.wire.specs.declared.Remembered.{Remembered}
 use Rattle.wire.specs.declared.Remembered.the-variants.{Nothing, Wire}
-use Rattle.wire.specs.Byte.{none}
 use Rattle.reader.specs.declared.Ninth.{Ninth}
 use Rattle.reader.specs.declared.Place.{Place}
-use Rattle.reader.specs.declared.Place.the-variants.{Idle, Within, Ending}
+use Rattle.reader.specs.declared.Place.the-variants.{Idle, Ending}
 use Rattle.plain.specs.declared.Turn.{Turn}
 use Rattle.reader.specs.declared.Reader.{Reader}
-use Rattle.reader.specs.Reader.{readerOf, readerAfter, readerAfresh}
-use Rattle.reader.specs.Record.{Level, level, readOne, readAll}
-use Rattle.reader.specs.Laws.{read-joined}
+use Rattle.reader.specs.Reader.{line, readerOf, readerAfter, readerAfresh}
+use Rattle.reader.specs.Record.{Level, level, readOne, heardOne, readAll}
+use Rattle.reader.specs.Laws.{read-joined, Marks, no-mark, new-mark, marks-kept}
 use Rattle.plain.specs.Device.{owes}
-use Rattle.cut.specs.Heard.{heardOf, StartAt, Unheard}
-
-abbrev line : Remembered → Bool → Line
-line seen mark = record { remembered = seen; mark = mark }
-
--- A marked reader has just begun a message, and SCL is still high.
-data Sound : Reader → Type 0 where
-  unmarked : {z : Remembered} {p : Place} → Sound (readerOf (line z false) p)
-  marked : {sda : Bool} → Sound (readerOf (line (Wire true sda) true) (Within true none))
+use Rattle.cut.specs.Heard.{StartAt, Unheard}
 
 -- The reader of the later part has heard no Start yet, and remembers the wire as the other does, or nothing.
 data Behind : Reader → Reader → Type 0 where
-  new : {r : Reader} → Sound r → Behind (readerOf (line Nothing false) Idle) r
-  idle : {z : Remembered} {k : Bool} {p : Place} → Sound (readerOf (line z k) p) → Behind (readerOf (line z false) Idle) (readerOf (line z k) p)
+  new : {r : Reader} → Marks r → Behind (readerOf (line Nothing false) Idle) r
+  idle : {z : Remembered} {k : Bool} {p : Place} → Marks (readerOf (line z k) p) → Behind (readerOf (line z false) Idle) (readerOf (line z k) p)
 
--- ---- every level keeps a reader sound
-sound-kept : {r : Reader} (scl sda : Bool) → Sound r → Sound (readerAfter r scl sda)
-sound-kept false sda (unmarked {z = Nothing}) = unmarked
-sound-kept true sda (unmarked {z = Nothing}) = unmarked
-sound-kept false sda (unmarked {z = Wire false before}) = unmarked
-sound-kept true sda (unmarked {z = Wire false before}) = unmarked
-sound-kept false sda (unmarked {z = Wire true before}) = unmarked
-sound-kept true true (unmarked {z = Wire true true}) = unmarked
-sound-kept true false (unmarked {z = Wire true true}) = marked
-sound-kept true true (unmarked {z = Wire true false}) = unmarked
-sound-kept true false (unmarked {z = Wire true false}) = unmarked
-sound-kept false sda marked = unmarked
-sound-kept true sda marked = marked
-
-sound-all : (ws : List Level) {r : Reader} → Sound r → Sound (readAll r ws)
-sound-all [] s = s
-sound-all (level scl sda ∷ ws) s = sound-all ws (sound-kept scl sda s)
+marks-all : (ws : List Level) {r : Reader} → Marks r → Marks (readAll r ws)
+marks-all [] s = s
+marks-all (level scl sda ∷ ws) s = marks-all ws (marks-kept scl sda s)
 
 -- ---- a level that is no Start to the later reader keeps it behind
 behind-kept :
     {q r : Reader} (scl sda : Bool) → Behind q r → (StartAt q (level scl sda) → ⊥)
     → Behind (readerAfter q scl sda) (readerAfter r scl sda)
-behind-kept false sda (new s) h = idle (sound-kept false sda s)
-behind-kept true sda (new s) h = idle (sound-kept true sda s)
-behind-kept false sda (idle {z = Nothing} s) h = idle (sound-kept false sda s)
-behind-kept true sda (idle {z = Nothing} s) h = idle (sound-kept true sda s)
-behind-kept false sda (idle {z = Wire false before} s) h = idle (sound-kept false sda s)
-behind-kept true sda (idle {z = Wire false before} s) h = idle (sound-kept true sda s)
-behind-kept false sda (idle {z = Wire true before} s) h = idle (sound-kept false sda s)
-behind-kept true true (idle {z = Wire true true} s) h = idle (sound-kept true true s)
+behind-kept false sda (new s) h = idle (marks-kept false sda s)
+behind-kept true sda (new s) h = idle (marks-kept true sda s)
+behind-kept false sda (idle {z = Nothing} s) h = idle (marks-kept false sda s)
+behind-kept true sda (idle {z = Nothing} s) h = idle (marks-kept true sda s)
+behind-kept false sda (idle {z = Wire false before} s) h = idle (marks-kept false sda s)
+behind-kept true sda (idle {z = Wire false before} s) h = idle (marks-kept true sda s)
+behind-kept false sda (idle {z = Wire true before} s) h = idle (marks-kept false sda s)
+behind-kept true true (idle {z = Wire true true} s) h = idle (marks-kept true true s)
 behind-kept true false (idle {z = Wire true true} s) h = absurd (h refl)
-behind-kept true true (idle {z = Wire true false} s) h = idle (sound-kept true true s)
-behind-kept true false (idle {z = Wire true false} s) h = idle (sound-kept true false s)
+behind-kept true true (idle {z = Wire true false} s) h = idle (marks-kept true true s)
+behind-kept true false (idle {z = Wire true false} s) h = idle (marks-kept true false s)
 
 -- ---- at the first Start that the later reader hears the two meet
 behind-meets :
@@ -76,8 +52,8 @@ behind-meets false sda (idle {z = Wire false before} s) h = cc
 behind-meets true sda (idle {z = Wire false before} s) h = cc
 behind-meets false sda (idle {z = Wire true before} s) h = cc
 behind-meets true true (idle {z = Wire true true} s) h = cc
-behind-meets true false (idle {z = Wire true true} unmarked) h = refl
-behind-meets true false (idle {z = Wire true true} marked) h = refl
+behind-meets true false (idle {z = Wire true true} no-mark) h = refl
+behind-meets true false (idle {z = Wire true true} new-mark) h = refl
 behind-meets true true (idle {z = Wire true false} s) h = cc
 behind-meets true false (idle {z = Wire true false} s) h = cc
 
@@ -95,7 +71,7 @@ pub cut-anywhere :
 cut-anywhere earlier xs w ys u h =
     let whole : Reader = readAll readerAfresh earlier in
     let m : readOne (readAll readerAfresh xs) w ≡ readOne (readAll whole xs) w =
-    meets xs w (new (sound-all earlier unmarked)) u h in
+    meets xs w (new (marks-all earlier no-mark)) u h in
     read-joined readerAfresh xs (w ∷ ys) ∙ ap (λ (r : Reader). readAll r ys) m ∙ sym (read-joined whole xs (w ∷ ys))
     ∙ sym (read-joined readerAfresh earlier (xs ++ (w ∷ ys)))
 
@@ -103,8 +79,8 @@ cut-anywhere earlier xs w ys u h =
 pub heard-alike :
     (earlier xs : List Level) (w : Level) (ys : List Level) (next : Level) → Unheard readerAfresh xs
     → StartAt (readAll readerAfresh xs) w
-    → heardOf (readAll readerAfresh (xs ++ (w ∷ ys))) next ≡ heardOf (readAll readerAfresh (earlier ++ (xs ++ (w ∷ ys)))) next
-heard-alike earlier xs w ys next u h = ap (λ (r : Reader). heardOf r next) (cut-anywhere earlier xs w ys u h)
+    → heardOne (readAll readerAfresh (xs ++ (w ∷ ys))) next ≡ heardOne (readAll readerAfresh (earlier ++ (xs ++ (w ∷ ys)))) next
+heard-alike earlier xs w ys next u h = ap (λ (r : Reader). heardOne r next) (cut-anywhere earlier xs w ys u h)
 
 -- .. and its acknowledge is owed alike, whatever the device was in the middle of.
 pub owed-alike :

@@ -1,20 +1,13 @@
--- What the plain reader hears of a level, and a record in which it hears no Start.
+-- Where the plain reader hears a Start, and a record in which it hears none.
 use mathlib.Core.Path.{_≡_}
 use mathlib.Core.List.{List, [], _∷_}
-use Rattle.wire.specs.Wire.{edgeOf}
-use Rattle.reader.specs.declared.Heard.{Heard}
 use Rattle.reader.specs.declared.Heard.the-variants.{Started}
 use Rattle.reader.specs.declared.Reader.{Reader}
-use Rattle.reader.specs.Reader.{heardAt}
-use Rattle.reader.specs.Record.{Level, level, readOne}
-
--- What the reader hears of a level.
-abbrev pub heardOf : Reader → Level → Heard
-heardOf r (level scl sda) = heardAt (r .place) (edgeOf (r .line) scl sda)
+use Rattle.reader.specs.Record.{Level, readOne, heardOne}
 
 -- The reader hears a Start.
 abbrev pub StartAt : Reader → Level → Type 0
-StartAt r w = heardOf r w ≡ Started
+StartAt r w = heardOne r w ≡ Started
 
 -- No Start is heard in these levels.
 abbrev pub Unheard : Reader → List Level → Type 0

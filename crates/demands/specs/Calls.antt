@@ -7,6 +7,7 @@ use mathlib.Core.Bool.{Bool, true, false, cond}
 use mathlib.Core.List.{List, [], _∷_, _++_, map}
 use lib.Dec.{T, ltb}
 use lib.ListN.{length, getD}
+use Rattle.items.specs.First.{FirstAbove, NoneAbove}
 use Rattle.refusals.specs.declared.Refusal.{Refusal}
 use Rattle.refusals.specs.declared.Refusal.the-variants.{NoState, NoRegister, ReservedBit, NoMode, NoWindow, NoItem, PastRecord}
 use Rattle.refusals.specs.declared.Verdict.{Verdict}
@@ -18,8 +19,8 @@ use Rattle.registers.specs.Values.{readOf}
 use Rattle.writes.specs.Writes.{writeOf}
 use Rattle.firmware.specs.declared.State.{State}
 use Rattle.firmware.specs.declared.Made.{Made}
-use Rattle.firmware.specs.declared.Made.the-variants.{Ready, Refused as NotMade}
-use Rattle.firmware.specs.Handler.{Served, served, setupOf}
+use Rattle.firmware.specs.declared.Made.the-variants.{Ready, NotMade}
+use Rattle.firmware.specs.Handler.{longestWindow, Served, served, setupOf}
 use Rattle.firmware.specs.Window.{windowFits, inBuffer}
 use Rattle.steps.specs.declared.Item.{Item}
 use Rattle.steps.specs.declared.Item.the-variants.{Call, Read, Write}
@@ -154,7 +155,7 @@ SomeAbove most items = (k : ℕ) × (k < length items) × (most < getD items k 0
 
 -- The table: why each call is refused, in the order in which that is looked at.
 abbrev pub causes : Host → DoorCall → List Cause
-causes h (setUp add n) = (NoState when (length (h .state) ≡ imageLength → ⊥)) ∷ (NoWindow when (n ≡ 0) ⊎ (256 < n)) ∷ []
+causes h (setUp add n) = (NoState when (length (h .state) ≡ imageLength → ⊥)) ∷ (NoWindow when (n ≡ 0) ⊎ (longestWindow < n)) ∷ []
 causes h (readRegister number) = (NoState when ImageOfNone (h .state)) ∷ (NoRegister when 7 < number) ∷ []
 causes h (writeRegister number value) =
     (NoState when ImageOfNone (h .state)) ∷ (NoRegister when 7 < number) ∷ (ReservedBit when SetsReserved number value)
@@ -180,13 +181,7 @@ Numbered (next ∷ rest) number =
 abbrev pub Exactly : ℕ → List Cause → Type 0
 Exactly refusal list = (number : ℕ) → (refusal ≡ number) ↔ Numbered list number
 
--- The first bad item, whose number stands beside refusal 4 of a run and of the finder.
-pub record FirstAbove (most : ℕ) (items : List ℕ) (k : ℕ) : Type 0 where
-  pub within : k < length items
-  pub above : most < getD items k 0
-  pub before : (i : ℕ) → i < k → getD items i 0 ≤ most
-
--- It stands there and nowhere else.
+-- The first bad item's number stands beside refusal 4 of a run and of the finder, and nowhere else.
 abbrev pub OnlyBeside : ℕ → Type 0 → ℕ → Type 0
 OnlyBeside refusal named item = (refusal ≡ numberOf NoItem → named) × ((refusal ≡ numberOf NoItem → ⊥) → item ≡ 0)
 
@@ -201,7 +196,7 @@ Beside (runTrace start n items) item = FirstAbove 4 items item
 -- ---- a trace through the door
 -- Every byte is an item.
 abbrev pub AllItems : List ℕ → Type 0
-AllItems items = (k : ℕ) → k < length items → getD items k 0 ≤ 4
+AllItems items = NoneAbove 4 items
 
 -- The items that a call over one window asks for.
 pub data Asks (start n : ℕ) : DoorCall → List ℕ → Type 0 where

@@ -2,7 +2,7 @@
 use Prim.Native.Nat.{ℕ, zero, suc, _+_, _*_, _/_, _%_, _<_, _≤_}
 use mathlib.Core.Logic.{_⊎_, inl, inr, ⊎-elim, _↔_}
 use mathlib.Core.Path.{_≡_, refl, sym, ap, ap₂, subst, _∙_}
-use mathlib.Core.Bool.{Bool, true, false, true≢false, cond, _&&_, _||_, not, and-false}
+use mathlib.Core.Bool.{Bool, true, false, true≢false, cond, _&&_, not, and-false}
 use mathlib.Core.List.{List, [], _∷_, map}
 use native.Mathlib.Omega.{arith}
 use native.Mathlib.Nat.{div-one, div-div-eq-div-mul}
@@ -10,8 +10,8 @@ use lib.Dec.{eqb, leb, ltb}
 use lib.ListN.{length}
 use borrow.Author.Tests.{eqb-true, eqb-false, eq-eqb, ne-eqb, leb-false, lt-leb, ltb-true, ltb-false, lt-ltb, le-ltb, not-true}
 use Rattle.truth.specs.Tests.{never, by-test, and-first, and-second}
-use Rattle.items.specs.First.{firstAbove}
-use Rattle.items.specs.Theorems.{before-first, at-first}
+use Rattle.items.specs.First.{firstAbove, FirstAbove}
+use Rattle.items.specs.Theorems.{first-above, none-above}
 use Rattle.refusals.specs.declared.Refusal.{Refusal}
 use Rattle.refusals.specs.declared.Refusal.the-variants.{NoState, ReservedBit, NoMode, NoWindow, NoItem}
 use Rattle.refusals.specs.declared.Verdict.{Verdict}
@@ -25,8 +25,8 @@ use Rattle.registers.specs.declared.Register.the-variants.{Buf, Stat, Con1, Con
 use Rattle.registers.specs.Values.{registerOf, valueOf, readVerdict, readOf}
 use Rattle.writes.specs.Writes.{verdictOf, writeOf}
 use Rattle.firmware.specs.declared.State.{State}
-use Rattle.firmware.specs.declared.Made.the-variants.{Ready, Refused as NotMade}
-use Rattle.firmware.specs.Handler.{Served, served, stateOf, handlerOf}
+use Rattle.firmware.specs.declared.Made.the-variants.{Ready, NotMade}
+use Rattle.firmware.specs.Handler.{longestWindow, isWindowLength, Served, served, stateOf, handlerOf}
 use Rattle.firmware.specs.Window.{windowOf}
 use Rattle.firmware.specs.Laws.{inside}
 use Rattle.steps.specs.declared.Item.{Item}
@@ -36,11 +36,11 @@ use Rattle.trace.specs.Run.{firstBad, itemIf, itemAt, runOf}
 use Rattle.trace.specs.Window.{SameOutside}
 use Rattle.trace.specs.Theorems.{run-length, window-length, splice-outside}
 use Rattle.found.specs.declared.Found.{Found}
-use Rattle.found.specs.declared.Found.the-variants.{Part, Refused as NotFound}
+use Rattle.found.specs.declared.Found.the-variants.{Part, NotFound}
 use Rattle.found.specs.Numbers.{refusalOf, badItemOf, startOf, lengthOf}
-use Rattle.finder.specs.declared.Place.{Place}
-use Rattle.finder.specs.declared.Place.the-variants.{Outside, Inside}
-use Rattle.finder.specs.Messages.{placeAt, endAt}
+use Rattle.finder.specs.declared.Whereabouts.{Whereabouts}
+use Rattle.finder.specs.declared.Whereabouts.the-variants.{Outside, Inside}
+use Rattle.finder.specs.Messages.{liesAt, endAt}
 use Rattle.finder.specs.Find.{firstBadLevel, partFrom, spanIf, spanOf}
 use Rattle.image.specs.declared.Decoded.the-variants.{NoImage}
 use Rattle.image.specs.Image.{imageLength, decodeOf}
@@ -50,7 +50,7 @@ use Rattle.door.specs.declared.Part.{Part as Parted}
 use Rattle.door.specs.Outcome.{refused, byState}
 use Rattle.door.specs.Door.{setupIf, doorLook, doorFind}
 use Rattle.door.specs.Theorems.{one-lent, setup-keeps, read-keeps, write-keeps, sample-keeps, call-keeps, run-keeps}
-use Rattle.demands.specs.Calls.{DoorCall, setUp, readRegister, writeRegister, feedSample, callHandler, runTrace, Host, host, reply, atDoor, told, inWindow, hasWindow, byDefinition, ImageOf, ImageOfNone, SetsReserved, SetsNoMode, SetUpFor, FitsNot, SomeAbove, Cause, _when_, causes, lookCauses, findCauses, Numbered, FirstAbove, OnlyBeside, Beside}
+use Rattle.demands.specs.Calls.{DoorCall, setUp, readRegister, writeRegister, feedSample, callHandler, runTrace, Host, host, reply, atDoor, told, inWindow, hasWindow, byDefinition, ImageOf, ImageOfNone, SetsReserved, SetsNoMode, SetUpFor, FitsNot, SomeAbove, Cause, _when_, causes, lookCauses, findCauses, Numbered, OnlyBeside, Beside}
 use Rattle.demands.specs.Demands.{OneOutcome, RefusedKeeps, OutsideKept, ExactCauses, ItemBeside, DemandOne}
 use Rattle.demands.specs.DemandTwo.{image-or-none, by-image}
 
@@ -145,27 +145,26 @@ not-equal a b = (λ t. eqb-false a b (not-true (eqb a b) t), λ other. rw (ne-eq
 below : (a b : ℕ) → (ltb a b ≡ true) ↔ (a < b)
 below a b = (ltb-true a b, lt-ltb a b)
 
-n-outside : (n : ℕ) → (eqb n 0 || ltb 256 n ≡ true) ↔ ((n ≡ 0) ⊎ (256 < n))
+n-outside : (n : ℕ) → (not (isWindowLength n) ≡ true) ↔ ((n ≡ 0) ⊎ (longestWindow < n))
 n-outside n = (
-  λ t. by-test (eqb n 0) (λ e. inl (eqb-true n 0 e)) (λ e. inr (ltb-true 256 n (rw e at t))),
-  ⊎-elim (λ e. rw e) (λ h. rw (ne-eqb n 0 (λ e. omega arith), lt-ltb 256 n h)),
+  λ t.
+      by-test (leb 1 n) (λ e. inr (leb-false n longestWindow (rw e at (not-true (isWindowLength n) t))))
+      (λ e. inl (omega (arith, leb-false 1 n e))),
+  ⊎-elim (λ e. rw e) (λ h. rw (lt-leb n longestWindow h, and-false (leb 1 n))),
 )
 
 module _ (most : ℕ) (items : List ℕ) where
-  first-above : ltb (firstAbove most items) (length items) ≡ true → FirstAbove most items (firstAbove most items)
-  first-above t =
-      let h = ltb-true (firstAbove most items) (length items) t in
-      record { within = h; above = at-first most items h; before = before-first most items }
+  is-first : ltb (firstAbove most items) (length items) ≡ true → FirstAbove most items (firstAbove most items)
+  is-first t = first-above most items (ltb-true (firstAbove most items) (length items) t)
 
   some-above : (ltb (firstAbove most items) (length items) ≡ true) ↔ SomeAbove most items
   some-above = (
-    λ t. let k = first-above t in (firstAbove most items, k .within, k .above),
+    λ t. let k = is-first t in (firstAbove most items, k .within, k .above),
     λ k.
         by-test (ltb (firstAbove most items) (length items)) (λ t. t)
         (λ t.
         let h = ltb-false (firstAbove most items) (length items) t in
-        let l : k .0 < length items = k .1 in
-        absurd (omega (arith, before-first most items (k .0) (omega arith), k .2))),
+        absurd (omega (arith, none-above most items h (k .0) (k .1), k .2))),
   )
 
 fits-not :
@@ -288,7 +287,7 @@ above-looks :
     (most : ℕ) (items : List ℕ) {rest : List Cause} {refusal : ℕ} (bad : Bool) → bad ≡ ltb (firstAbove most items) (length items)
     → (bad ≡ false → FirstOf (FirstAbove most items) rest refusal 0)
     → FirstOf (FirstAbove most items) ((NoItem when SomeAbove most items) ∷ rest) (cond bad 4 refusal) (cond bad (firstAbove most items) 0)
-above-looks most items true e more = here (some-above most items .0 (sym e)) (λ q. first-above most items (sym e), λ q. absurd (q refl))
+above-looks most items true e more = here (some-above most items .0 (sym e)) (λ q. is-first most items (sym e), λ q. absurd (q refl))
 above-looks most items false e more = later (λ g. true≢false (sym (some-above most items .1 g) ∙ sym e)) (more refl)
 
 module _ (h : Host) where
@@ -296,12 +295,13 @@ module _ (h : Host) where
   Looks c = FirstOf (Beside c) (causes h c) (atDoor h c .answer .refusal) (atDoor h c .answer .item)
 
   setup-looks :
-      (add n : ℕ) (s : State) (long bad : Bool) → (not long ≡ true) ↔ (length (h .state) ≡ imageLength → ⊥)
-      → (bad ≡ true) ↔ ((n ≡ 0) ⊎ (256 < n)) → let answer : Answer = setupIf long (cond bad (NotMade NoWindow) (Ready s)) (h .state) .answer in
+      (add n : ℕ) (s : State) (long good : Bool) → (not long ≡ true) ↔ (length (h .state) ≡ imageLength → ⊥)
+      → (not good ≡ true) ↔ ((n ≡ 0) ⊎ (longestWindow < n))
+      → let answer : Answer = setupIf long (cond good (Ready s) (NotMade NoWindow)) (h .state) .answer in
       FirstOf (Beside (setUp add n)) (causes h (setUp add n)) (answer .refusal) (answer .item)
-  setup-looks add n s false bad six five = here (six .0 refl) (λ e. refl, λ e. refl)
-  setup-looks add n s true true six five = later (λ g. never (six .1 g)) (here (five .0 refl) (λ e. refl, λ e. refl))
-  setup-looks add n s true false six five = later (λ g. never (six .1 g)) (later (λ g. never (five .1 g)) none)
+  setup-looks add n s false good six five = here (six .0 refl) (λ e. refl, λ e. refl)
+  setup-looks add n s true false six five = later (λ g. never (six .1 g)) (here (five .0 refl) (λ e. refl, λ e. refl))
+  setup-looks add n s true true six five = later (λ g. never (six .1 g)) (later (λ g. never (five .1 g)) none)
 
   window-looks :
       {named : ℕ → Type 0} {four : List Cause} (w : Served) (start n item : ℕ) (items : List Item) (f bad : Bool)
@@ -326,7 +326,7 @@ module _ (h : Host) where
   looked : (c : DoorCall) → Looks c
   unfolding byState
   looked (setUp add n) =
-      setup-looks add n (stateOf (setup add) (handlerOf n 0 false)) (eqb (length (h .state)) imageLength) (eqb n 0 || ltb 256 n)
+      setup-looks add n (stateOf (setup add) (handlerOf n 0 false)) (eqb (length (h .state)) imageLength) (isWindowLength n)
       (not-equal (length (h .state)) imageLength) (n-outside n)
   looked (readRegister number) =
       on-image (readRegister number) (λ e. rw e)
@@ -364,8 +364,8 @@ look-looks bytes =
     (image-or-none bytes)
 
 part-looks :
-    {named : ℕ → Type 0} {list : List Cause} (place : Place) (item end : ℕ) → FirstOf named list 0 0
-    → FirstOf named list (refusalOf (partFrom place item end)) (badItemOf (partFrom place item end))
+    {named : ℕ → Type 0} {list : List Cause} (lies : Whereabouts) (item end : ℕ) → FirstOf named list 0 0
+    → FirstOf named list (refusalOf (partFrom lies item end)) (badItemOf (partFrom lies item end))
 part-looks Outside item end first = first
 part-looks (Inside start) item end first = first
 
@@ -377,7 +377,7 @@ find-looks levels item true in-it e f = above-looks 3 levels {refusal = 0} true 
 find-looks levels item false false e f =
     above-looks 3 levels false e (λ no. here (ltb-false item (length levels) (sym f)) (no-item 7 (λ q. omega arith)))
 find-looks levels item false true e f =
-    part-looks (placeAt levels item) item (endAt levels item)
+    part-looks (liesAt levels item) item (endAt levels item)
     (above-looks 3 levels false e (λ no. later (λ (g : length levels ≤ item). omega (arith, ltb-true item (length levels) (sym f))) none))
 
 found-looks : (levels : List ℕ) (item : ℕ) → let part : Parted = doorFind levels item in FirstOf (FirstAbove 3 levels) (findCauses levels item) (part .refusal) (part .item)

@@ -8,16 +8,16 @@ use native.Mathlib.Omega.{arith}
 use lib.Dec.{T, eqb, ltb}
 use lib.ListN.{length, take, drop, take-append-drop, length-append, length-drop, List·getD-append}
 use lib.Seq.{length-take-le, take-at, drop-at, getD-append-add}
-use borrow.Author.Tests.{ne-eqb, ltb-false, lt-ltb, le-ltb, eq-eqb, le-leb}
+use borrow.Author.Tests.{ltb-false, lt-ltb, le-ltb, eq-eqb, le-leb}
 use Rattle.truth.specs.Tests.{by-test}
-use Rattle.items.specs.Theorems.{before-first, first-only}
+use Rattle.items.specs.Theorems.{none-above, none-first}
 use Rattle.refusals.specs.declared.Refusal.the-variants.{NoWindow}
 use Rattle.mssp.specs.Module.{setup}
 use Rattle.firmware.specs.declared.State.{State}
-use Rattle.firmware.specs.declared.Made.the-variants.{Ready, Refused}
-use Rattle.firmware.specs.Handler.{Served, served, stateOf, handlerOf, acknowledged, serve, calledIf}
+use Rattle.firmware.specs.declared.Made.the-variants.{Ready, NotMade}
+use Rattle.firmware.specs.Handler.{isWindowLength, Served, served, stateOf, handlerOf, acknowledged, serve, calledIf}
 use Rattle.firmware.specs.Window.{windowOf, splice, inBuffer}
-use Rattle.firmware.specs.Laws.{inside}
+use Rattle.firmware.specs.Laws.{within-length, inside}
 use Rattle.steps.specs.declared.Item.{Item}
 use Rattle.steps.specs.Step.{afterAll}
 use Rattle.trace.specs.Run.{firstBad, byteStepIf, byteStep, itemIf, itemAt, runFrom, runOf}
@@ -44,15 +44,15 @@ madeFor add n = stateOf (setup add) (handlerOf n 0 false)
 
 module _ (bytes : List ℕ) (add n : ℕ) where
   made-if :
-      (long bad : Bool) → let o : Outcome = setupIf long (cond bad (Refused NoWindow) (Ready (madeFor add n))) bytes in
+      (long good : Bool) → let o : Outcome = setupIf long (cond good (Ready (madeFor add n)) (NotMade NoWindow)) bytes in
       o .answer .refusal ≡ 0 → o ≡ outcome (done 0) (encodeOf (madeFor add n))
-  made-if false bad e = absurd (omega arith)
-  made-if true true e = absurd (omega arith)
-  made-if true false e = refl
+  made-if false good e = absurd (omega arith)
+  made-if true false e = absurd (omega arith)
+  made-if true true e = refl
 
   module _ (e : doorSetup bytes add n .answer .refusal ≡ 0) where
     setup-made : doorSetup bytes add n ≡ outcome (done 0) (encodeOf (madeFor add n))
-    setup-made = made-if (eqb (length bytes) imageLength) (eqb n 0 || ltb 256 n) e
+    setup-made = made-if (eqb (length bytes) imageLength) (isWindowLength n) e
 
     setup-valid : T (validState (madeFor add n))
     setup-valid = image-is (madeFor add n) (subst (λ (o : Outcome). Image (o .state)) setup-made (setup-leaves bytes add n e))
@@ -111,12 +111,10 @@ run-n s bytes (x ∷ xs) = run-n (byteStep s bytes x .state) (byteStep s bytes x
 
 -- Every item is one.
 none-bad : (items : List ℕ) → AllItems items → ltb (firstBad items) (length items) ≡ false
-none-bad items good =
-    let e = first-only 4 items (length items) (omega arith) good (λ h. absurd (omega arith)) in
-    le-ltb (firstBad items) (length items) (omega arith)
+none-bad items good = le-ltb (firstBad items) (length items) (omega (arith, none-first 4 items good))
 
 all-good : (items : List ℕ) → ltb (firstBad items) (length items) ≡ false → AllItems items
-all-good items e k h = let l = ltb-false (firstBad items) (length items) e in before-first 4 items k (omega arith)
+all-good items e = none-above 4 items (ltb-false (firstBad items) (length items) e)
 
 module _ (xs ys : List ℕ) (good : AllItems (xs ++ ys)) where
   good-first : AllItems xs
@@ -241,7 +239,7 @@ demand-three-at-door add start n h calls items long low high inside feeds good =
     begun = served (madeFor add n) (h .buffer)
 
     accepted : doorSetup (h .state) add n .answer .refusal ≡ 0
-    accepted = rw (eq-eqb (length (h .state)) imageLength long, ne-eqb n 0 (λ e. omega arith), le-ltb 256 n high)
+    accepted = rw (eq-eqb (length (h .state)) imageLength long, within-length n low high)
 
     begins : atDoor h (setUp add n) ≡ reply (done 0) (imageHost begun)
     begins = ap (λ (o : Outcome). reply (o .answer) (host (o .state) (h .buffer))) (setup-made (h .state) add n accepted)

@@ -22,7 +22,7 @@ use Rattle.writes.specs.Writes.{writeOf}
 use Rattle.readback.specs.Readback.{refused-leaves}
 use Rattle.firmware.specs.declared.State.{State}
 use Rattle.firmware.specs.declared.Made.{Made}
-use Rattle.firmware.specs.declared.Made.the-variants.{Ready, Refused as NotMade}
+use Rattle.firmware.specs.declared.Made.the-variants.{Ready, NotMade}
 use Rattle.firmware.specs.Handler.{Served, served, stateOf, setupOf}
 use Rattle.firmware.specs.Window.{windowFits, callOf, callChoice}
 use Rattle.steps.specs.declared.Item.the-variants.{Call}

@@ -4,9 +4,10 @@ use Prim.Native.Nat.{ℕ, _+_, _<_, _≤_}
 use mathlib.Core.Path.{_≡_}
 use mathlib.Core.List.{List, [], _∷_, map}
 use lib.ListN.{length}
+use Rattle.items.specs.First.{FirstAbove}
 use Rattle.memory.specs.Memory.{peeked}
 use Rattle.firmware.specs.declared.State.{State}
-use Rattle.firmware.specs.Handler.{Served, served, stateOf, memoryIn, called}
+use Rattle.firmware.specs.Handler.{longestWindow, Served, served, stateOf, memoryIn, called}
 use Rattle.firmware.specs.Window.{windowOf, splice}
 use Rattle.trace.specs.Run.{itemAt}
 use Rattle.trace.specs.Window.{SameOutside}
@@ -17,7 +18,7 @@ use Rattle.door.specs.declared.Answer.{Answer}
 use Rattle.door.specs.declared.Part.{Part}
 use Rattle.door.specs.Outcome.{done}
 use Rattle.door.specs.Door.{doorLook, doorFind}
-use Rattle.demands.specs.Calls.{DoorCall, setUp, readRegister, callHandler, runTrace, Host, answers, leftAfter, Allows, atDoor, byDefinition, ImageOf, causes, lookCauses, findCauses, Exactly, FirstAbove, OnlyBeside, Beside, AllItems, Feeds, firmware}
+use Rattle.demands.specs.Calls.{DoorCall, setUp, readRegister, callHandler, runTrace, Host, answers, leftAfter, Allows, atDoor, byDefinition, ImageOf, causes, lookCauses, findCauses, Exactly, OnlyBeside, Beside, AllItems, Feeds, firmware}
 
 -- ---- DEMAND 1: every call has one outcome, changes only what it may, and refuses by number, exactly for the causes of the table
 -- Only one answer fits a call's contract, with one state and one buffer. (What look and find answer is an equation as it stands.)
@@ -77,7 +78,7 @@ DemandTwo =
 -- It holds of every list of items, so after each item of a list.
 abbrev pub DemandThree : Type 0
 DemandThree =
-    (add start n : ℕ) (h : Host) (calls : List DoorCall) (items : List ℕ) → length (h .state) ≡ imageLength → 1 ≤ n → n ≤ 256
+    (add start n : ℕ) (h : Host) (calls : List DoorCall) (items : List ℕ) → length (h .state) ≡ imageLength → 1 ≤ n → n ≤ longestWindow
     → start + n ≤ length (h .buffer) → Feeds start n calls items → AllItems items
     → let after : Host = leftAfter atDoor h (setUp add n ∷ calls) in
     let joint : Joint = run n add (afresh add (windowOf start n (h .buffer))) (map itemAt items) in

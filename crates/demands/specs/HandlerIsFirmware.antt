@@ -15,7 +15,7 @@ use Rattle.mssp.specs.Valid.{modeFits, valid}
 use Rattle.mssp.specs.Laws.{clauses}
 use Rattle.effects.specs.Effects.{emptied, loaded, released}
 use Rattle.register_bytes.specs.Bytes.{byteOf}
-use Rattle.register_bytes.specs.Bits.{Bits, bits-back}
+use Rattle.register_bytes.specs.Bits.{EightBits, bits-back}
 use Rattle.memory.specs.Memory.{peeked}
 use Rattle.firmware.specs.declared.State.{State}
 use Rattle.firmware.specs.Handler.{Served, served, stateOf, memoryIn, acknowledged, serve, calledIf, called}
@@ -53,7 +53,7 @@ mode-ours false ours t = refl
 
 con1-written :
     (m : Module) (v : ℕ) → T (modeFits (m .config))
-    → Bits v (m .config .wcol) (m .live .sspov) (m .config .sspen) true (m .config .sspm3) (m .config .sspm2) (m .config .sspm1) (m .config .sspm0)
+    → EightBits v (m .config .wcol) (m .live .sspov) (m .config .sspen) true (m .config .sspm3) (m .config .sspm2) (m .config .sspm1) (m .config .sspm0)
     → afterWriting 2 v m ≡ released m
 con1-written m v mode k =
     let c = m .config in

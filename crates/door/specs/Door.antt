@@ -13,7 +13,7 @@ use Rattle.registers.specs.Values.{readOf}
 use Rattle.writes.specs.Writes.{writeOf}
 use Rattle.firmware.specs.declared.State.{State}
 use Rattle.firmware.specs.declared.Made.{Made}
-use Rattle.firmware.specs.declared.Made.the-variants.{Ready, Refused as NotMade}
+use Rattle.firmware.specs.declared.Made.the-variants.{Ready, NotMade}
 use Rattle.firmware.specs.Handler.{stateOf, setupOf}
 use Rattle.firmware.specs.Window.{callOf, CallOutcome}
 use Rattle.trace.specs.Run.{sampledBy}

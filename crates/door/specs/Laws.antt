@@ -12,7 +12,7 @@ use Rattle.mssp.specs.declared.Module.{Module}
 use Rattle.registers.specs.declared.Access.{Access}
 use Rattle.firmware.specs.declared.State.{State}
 use Rattle.firmware.specs.declared.Made.{Made}
-use Rattle.firmware.specs.declared.Made.the-variants.{Ready, Refused as NotMade}
+use Rattle.firmware.specs.declared.Made.the-variants.{Ready, NotMade}
 use Rattle.firmware.specs.Handler.{stateOf, setupOf}
 use Rattle.firmware.specs.Window.{CallOutcome, callOutcome}
 use Rattle.trace.specs.Window.{RunOutcome, runOutcome}

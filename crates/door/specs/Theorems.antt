@@ -15,7 +15,7 @@ use Rattle.registers.specs.Values.{readOf}
 use Rattle.writes.specs.Writes.{writeOf}
 use Rattle.firmware.specs.declared.State.{State}
 use Rattle.firmware.specs.declared.Made.{Made}
-use Rattle.firmware.specs.declared.Made.the-variants.{Ready, Refused as NotMade}
+use Rattle.firmware.specs.declared.Made.the-variants.{Ready, NotMade}
 use Rattle.firmware.specs.Handler.{stateOf, setupOf}
 use Rattle.firmware.specs.Window.{windowFits, callOf, callChoice}
 use Rattle.trace.specs.Run.{firstBad, sampledBy}

@@ -68,7 +68,7 @@ pub extern "C" fn wherryoar_setup(state: &mut [u8], add: u8, n: u64) -> Answer
     }
     match firmware::set_up(add, n) {
         Made::Ready(s) => settle(state, Verdict::Done(0), 0, s),
-        Made::Refused(why) => refuse(why, 0),
+        Made::NotMade(why) => refuse(why, 0),
     }
 }
 

@@ -1,12 +1,12 @@
 -- An accepted call through the door leaves a state's image, and a refused one the image that was there: a host that keeps to
 -- the door never loses its state.
 use Prim.Native.Nat.{ℕ, zero, suc}
-use mathlib.Core.Path.{_≡_, refl}
-use mathlib.Core.Bool.{Bool, true, false, _&&_}
+use mathlib.Core.Path.{_≡_, refl, sym, subst}
+use mathlib.Core.Bool.{Bool, true, false}
 use mathlib.Core.List.{List}
 use native.Mathlib.Omega.{arith}
 use mir.Facts.{and-yes}
-use lib.Dec.{T, eqb, leb, ltb, leb→le, ltb→lt, le→leb, lt→ltb}
+use lib.Dec.{T, eqb, ltb, ltb→lt, lt→ltb}
 use lib.ListN.{length}
 use Rattle.truth.specs.Tests.{and-both}
 use Rattle.refusals.specs.declared.Refusal.{Refusal}
@@ -24,9 +24,10 @@ use Rattle.kept.specs.Kept.{sample-kept, access-read-kept, access-write-kept}
 use Rattle.firmware.specs.declared.Handler.{Handler}
 use Rattle.firmware.specs.declared.State.{State}
 use Rattle.firmware.specs.declared.Made.{Made}
-use Rattle.firmware.specs.declared.Made.the-variants.{Ready, Refused as NotMade}
-use Rattle.firmware.specs.Handler.{stateOf, setupOf}
+use Rattle.firmware.specs.declared.Made.the-variants.{Ready, NotMade}
+use Rattle.firmware.specs.Handler.{isWindowLength, stateOf, setupOf}
 use Rattle.firmware.specs.Window.{windowFits, windowOf, callOf, callChoice}
+use Rattle.firmware.specs.Laws.{length-within, within-length}
 use Rattle.trace.specs.Run.{sampledBy}
 use Rattle.trace.specs.Window.{runInOf}
 use Rattle.runkept.specs.States.{ValidHandler, ValidState}
@@ -43,13 +44,9 @@ use Rattle.doorkept.specs.Left.{Image, Leaves}
 -- ---- a state by its clauses, and by the test that decoding makes
 handler-clauses : (h : Handler) → T (handlerValid h) → ValidHandler h
 handler-clauses h t =
-    let both = and-yes (leb 1 (h .n) && leb (h .n) 256) (ltb (h .pointer) (h .n)) t in
-    let range = and-yes (leb 1 (h .n)) (leb (h .n) 256) (both .0) in
-    record {
-      some = leb→le 1 (h .n) (range .0);
-      most = leb→le (h .n) 256 (range .1);
-      inside = ltb→lt (h .pointer) (h .n) (both .1);
-    }
+    let both = and-yes (isWindowLength (h .n)) (ltb (h .pointer) (h .n)) t in
+    let range = length-within (h .n) (both .0) in
+    record { some = range .0; most = range .1; inside = ltb→lt (h .pointer) (h .n) (both .1) }
 
 state-clauses : (s : State) → T (validState s) → ValidState s
 state-clauses s t =
@@ -60,8 +57,8 @@ state-test : (s : State) → ValidState s → T (validState s)
 state-test s v =
     let h = s .handler in
     and-both (valid (s .mssp)) (handlerValid h) (test (s .mssp) (v .mssp))
-    (and-both (leb 1 (h .n) && leb (h .n) 256) (ltb (h .pointer) (h .n))
-    (and-both (leb 1 (h .n)) (leb (h .n) 256) (le→leb 1 (h .n) (v .handler .some)) (le→leb (h .n) 256 (v .handler .most)))
+    (and-both (isWindowLength (h .n)) (ltb (h .pointer) (h .n))
+    (subst T (sym (within-length (h .n) (v .handler .some) (v .handler .most))) tt)
     (lt→ltb (h .pointer) (h .n) (v .handler .inside)))
 
 image-of : (s : State) → ValidState s → Image (encodeOf s)

@@ -3,8 +3,8 @@ use Prim.Native.Nat.{ℕ}
 use lib.Dec.{T, eqb}
 use mathlib.Core.Bool.{Bool, true, _&&_}
 use mathlib.Core.List.{List, [], _∷_}
-use Rattle.finder.specs.Messages.{lineBefore, edgeAt, placeAt, endFrom}
-use Rattle.items.specs.First.{span}
+use Rattle.finder.specs.Messages.{lineBefore, edgeAt, liesAt, endFrom}
+use Rattle.items.specs.First.{leading}
 use Rattle.found.specs.Numbers.{refusalOf, badItemOf, startOf, lengthOf}
 use Rattle.finder.specs.Find.{spanOf}
 
@@ -47,5 +47,5 @@ table =
     ∷ []
 
 pub examples : T (allHold table)
-unfolding lineBefore edgeAt placeAt endFrom span spanOf
+unfolding lineBefore edgeAt liesAt endFrom leading spanOf
 examples = tt

@@ -1,4 +1,4 @@
--- `placeAt` and `endAt` find exactly the messages: an item lies inside one if and only if that one is under way there,
+-- `liesAt` and `endAt` find exactly the messages: an item lies inside one if and only if that one is under way there,
 -- and the end found makes it whole.
 use Prim.Native.Nat.{ℕ, zero, suc, _+_, _-_, _<_, _≤_}
 use mathlib.Core.Path.{_≡_, refl, sym, ap, _∙_}
@@ -9,8 +9,8 @@ use native.Mathlib.Omega.{arith}
 use native.Mathlib.Nat.{eq-or-lt-of-le}
 use native.Mathlib.Decide.{decLt}
 use lib.ListN.{length}
-use Rattle.finder.specs.declared.Place.the-variants.{Outside, Inside}
-use Rattle.finder.specs.Messages.{lineBefore, edgeAt, startAt, stopAt, placed, placeAt, endFrom, endAt, UnderWay, IsMessage}
+use Rattle.finder.specs.declared.Whereabouts.the-variants.{Outside, Inside}
+use Rattle.finder.specs.Messages.{lineBefore, edgeAt, startAt, stopAt, liesBy, liesAt, endFrom, endAt, UnderWay, IsMessage}
 
 not-both : {b : Bool} → b ≡ true → b ≡ false → ⊥
 not-both t f = let z : _≡_ {A = ℕ} 0 1 = cc in omega arith
@@ -46,36 +46,36 @@ way-back item w h g = record {
 }
 
 -- The message of an item that lies inside is under way there.
-placed-way : {levels : List ℕ} {item start : ℕ} (a b : Bool) → startAt levels (suc item) ≡ a → stopAt levels item ≡ b
-    → (placeAt levels item ≡ Inside start → UnderWay levels start item)
-    → placed a b (placeAt levels item) (suc item) ≡ Inside start → UnderWay levels start (suc item)
-placed-way {item = item} {start = start} true b p q before e = let s : start ≡ suc item = cc in rw s (way-opened p)
-placed-way false true p q before e = absurd (outside-inside e)
-placed-way false false p q before e = way-on (before e) p q
+lies-way : {levels : List ℕ} {item start : ℕ} (a b : Bool) → startAt levels (suc item) ≡ a → stopAt levels item ≡ b
+    → (liesAt levels item ≡ Inside start → UnderWay levels start item)
+    → liesBy a b (liesAt levels item) (suc item) ≡ Inside start → UnderWay levels start (suc item)
+lies-way {item = item} {start = start} true b p q before e = let s : start ≡ suc item = cc in rw s (way-opened p)
+lies-way false true p q before e = absurd (outside-inside e)
+lies-way false false p q before e = way-on (before e) p q
 
-under-way : (levels : List ℕ) (item start : ℕ) → placeAt levels item ≡ Inside start → UnderWay levels start item
-unfolding placeAt
+under-way : (levels : List ℕ) (item start : ℕ) → liesAt levels item ≡ Inside start → UnderWay levels start item
+unfolding liesAt
 under-way levels zero start e = absurd (outside-inside e)
 under-way levels (suc item) start e =
-    placed-way (startAt levels (suc item)) (stopAt levels item) refl refl (under-way levels item start) e
+    lies-way (startAt levels (suc item)) (stopAt levels item) refl refl (under-way levels item start) e
 
 -- The other way round. Item 0 makes no edge, so no message is under way there.
 first-still : (levels : List ℕ) → startAt levels 0 ≡ false
 unfolding edgeAt lineBefore
 first-still levels = refl
 
-place-inside : (levels : List ℕ) (item start : ℕ) → UnderWay levels start item → placeAt levels item ≡ Inside start
-unfolding placeAt
-place-inside levels zero start w =
+lies-inside : (levels : List ℕ) (item start : ℕ) → UnderWay levels start item → liesAt levels item ≡ Inside start
+unfolding liesAt
+lies-inside levels zero start w =
     let s : start ≡ 0 = omega arith in
     absurd (not-both (w .opens) (rw s (first-still levels)))
-place-inside levels (suc item) start w = ⊎-elim here (further (place-inside levels item start)) (eq-or-lt-of-le (w .upto))
+lies-inside levels (suc item) start w = ⊎-elim here (further (lies-inside levels item start)) (eq-or-lt-of-le (w .upto))
   where
-    here : start ≡ suc item → placeAt levels (suc item) ≡ Inside start
+    here : start ≡ suc item → liesAt levels (suc item) ≡ Inside start
     here e = let o : startAt levels (suc item) ≡ true = rw (← e) (w .opens) in rw o (ap Inside (sym e))
 
-    further : (UnderWay levels start item → placeAt levels item ≡ Inside start) → start < suc item
-        → placeAt levels (suc item) ≡ Inside start
+    further : (UnderWay levels start item → liesAt levels item ≡ Inside start) → start < suc item
+        → liesAt levels (suc item) ≡ Inside start
     further before l =
         let n : startAt levels (suc item) ≡ false = w .one-start (suc item) l (omega arith) in
         let t : stopAt levels item ≡ false = w .no-stop item (omega arith) (omega arith) in
@@ -103,7 +103,7 @@ end-message levels (suc left) item start w e =
     (λ v. end-message levels left (suc item) start v (omega arith))
 
 -- The message that an item lies in is whole, and ends where `endAt` says.
-pub whole-message : (levels : List ℕ) (item start : ℕ) → item < length levels → placeAt levels item ≡ Inside start
+pub whole-message : (levels : List ℕ) (item start : ℕ) → item < length levels → liesAt levels item ≡ Inside start
     → (last : ℕ) × (endAt levels item ≡ suc last) × (start ≤ item) × (item ≤ last) × IsMessage levels start last
 whole-message levels item start h e =
     let w = under-way levels item start e in
@@ -128,9 +128,9 @@ one-end {last = last} {other = other} m n =
 
 -- Every item of a message lies inside it, and finds its end.
 pub item-inside : {levels : List ℕ} {start last : ℕ} (item : ℕ) → IsMessage levels start last → start ≤ item → item ≤ last
-    → (placeAt levels item ≡ Inside start) × (endAt levels item ≡ suc last)
+    → (liesAt levels item ≡ Inside start) × (endAt levels item ≡ suc last)
 item-inside {levels} {start} {last} item m h g =
-    let p : placeAt levels item ≡ Inside start = place-inside levels item start (way-back item (m .way) h g) in
+    let p : liesAt levels item ≡ Inside start = lies-inside levels item start (way-back item (m .way) h g) in
     let w : last < length levels = m .within in
     let (other, e, s, l, n) = whole-message levels item start (omega arith) p in
     (p, e ∙ ap suc (one-end n m))

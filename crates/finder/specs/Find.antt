@@ -7,29 +7,29 @@ use lib.ListN.{length, take, drop}
 use lib.Dec.{ltb}
 use Rattle.items.specs.First.{firstAbove}
 use Rattle.refusals.specs.declared.Refusal.the-variants.{NoItem, PastRecord}
-use Rattle.finder.specs.declared.Place.{Place}
-use Rattle.finder.specs.declared.Place.the-variants.{Outside, Inside}
+use Rattle.finder.specs.declared.Whereabouts.{Whereabouts}
+use Rattle.finder.specs.declared.Whereabouts.the-variants.{Outside, Inside}
 use Rattle.found.specs.declared.Found.{Found}
-use Rattle.found.specs.declared.Found.the-variants.{Part, Refused}
+use Rattle.found.specs.declared.Found.the-variants.{Part, NotFound}
 use Rattle.found.specs.Numbers.{startOf, lengthOf}
-use Rattle.finder.specs.Messages.{placeAt, endAt}
+use Rattle.finder.specs.Messages.{liesAt, endAt}
 
 -- The number of the first level above 3; the record's length where there is none.
 abbrev pub firstBadLevel : List ℕ → ℕ
 firstBadLevel levels = firstAbove 3 levels
 
 -- From its Start up to its end; in no message, an empty part at the item itself.
-abbrev pub partFrom : Place → ℕ → ℕ → Found
+abbrev pub partFrom : Whereabouts → ℕ → ℕ → Found
 partFrom Outside item end = Part item 0
 partFrom (Inside start) item end = Part start (end - start)
 
 abbrev pub messagePart : List ℕ → ℕ → Found
-messagePart levels item = partFrom (placeAt levels item) item (endAt levels item)
+messagePart levels item = partFrom (liesAt levels item) item (endAt levels item)
 
 -- Refusal 4 with the first bad item's number, then 7, else the part. The tests: a level is bad, the item is in the record.
 abbrev pub spanIf : Bool → Bool → List ℕ → ℕ → Found
-spanIf true inside levels item = Refused NoItem (firstBadLevel levels)
-spanIf false false levels item = Refused PastRecord 0
+spanIf true inside levels item = NotFound NoItem (firstBadLevel levels)
+spanIf false false levels item = NotFound PastRecord 0
 spanIf false true levels item = messagePart levels item
 
 unfoldable pub spanOf : List ℕ → ℕ → Found

@@ -1,4 +1,4 @@
--- Laws that the finder's proofs cite: a reading one item on, the end of a message one item on, the first bad item, and
+-- Laws that the finder's proofs cite: what is carried one item on, the end of a message one item on, the first bad item, and
 -- that a part lies inside its record.
 use Prim.Native.Nat.{ℕ, zero, suc, _+_, _-_, _<_, _≤_}
 use mathlib.Core.Path.{_≡_, refl, ap, _∙_}
@@ -11,46 +11,46 @@ use lib.Dec.{ltb}
 use borrow.Author.Tests.{lt-ltb, le-ltb, ltb-true}
 use Rattle.refusals.specs.declared.Refusal.the-variants.{NoItem, PastRecord}
 use Rattle.wire.specs.Wire.{isStart}
-use Rattle.finder.specs.declared.Place.{Place}
-use Rattle.finder.specs.declared.Place.the-variants.{Outside, Inside}
-use Rattle.finder.specs.declared.Reading.{Reading}
+use Rattle.finder.specs.declared.Whereabouts.{Whereabouts}
+use Rattle.finder.specs.declared.Whereabouts.the-variants.{Outside, Inside}
+use Rattle.finder.specs.declared.Carried.{Carried}
 use Rattle.found.specs.declared.Found.{Found}
-use Rattle.found.specs.declared.Found.the-variants.{Part, Refused}
-use Rattle.finder.specs.Messages.{levelAt, lineBefore, edgeAt, isStop, startAt, stopBefore, pastEnd, placeAt, endFrom, endAt}
-use Rattle.finder.specs.Reader.{unread, readOn, readingBefore}
+use Rattle.found.specs.declared.Found.the-variants.{Part, NotFound}
+use Rattle.finder.specs.Messages.{levelAt, lineBefore, edgeAt, isStop, startAt, stopBefore, pastEnd, liesAt, endFrom, endAt}
+use Rattle.finder.specs.Carried.{unread, readOn, carriedBefore}
 use Rattle.found.specs.Numbers.{startOf, lengthOf}
 use Rattle.finder.specs.Find.{firstBadLevel, partFrom, messagePart, spanIf, spanOf, partOf, partPlace}
 use Rattle.finder.specs.Extent.{whole-message}
 
--- The reading after an item is the one before the next.
-reading-next : (levels : List ℕ) (item : ℕ)
-    → readOn (readingBefore levels item) item (levelAt levels item) ≡ readingBefore levels (suc item)
-unfolding readingBefore lineBefore edgeAt placeAt
-reading-next levels zero = refl
-reading-next levels (suc item) = refl
+-- What is carried on from an item is what is carried to the next.
+carried-next : (levels : List ℕ) (item : ℕ)
+    → readOn (carriedBefore levels item) item (levelAt levels item) ≡ carriedBefore levels (suc item)
+unfolding carriedBefore lineBefore edgeAt liesAt
+carried-next levels zero = refl
+carried-next levels (suc item) = refl
 
-reading-stop : (levels : List ℕ) (item : ℕ) → isStop (readingBefore levels item .edge) ≡ stopBefore levels item
-unfolding readingBefore
-reading-stop levels zero = refl
-reading-stop levels (suc item) = refl
+carried-stop : (levels : List ℕ) (item : ℕ) → isStop (carriedBefore levels item .edge) ≡ stopBefore levels item
+unfolding carriedBefore
+carried-stop levels zero = refl
+carried-stop levels (suc item) = refl
 
-reading-start : (levels : List ℕ) (item : ℕ) → isStart (readingBefore levels (suc item) .edge) ≡ startAt levels item
-unfolding readingBefore
-reading-start levels item = refl
+carried-start : (levels : List ℕ) (item : ℕ) → isStart (carriedBefore levels (suc item) .edge) ≡ startAt levels item
+unfolding carriedBefore
+carried-start levels item = refl
 
-pub reading-first : (levels : List ℕ) → unread ≡ readingBefore levels 0
-unfolding readingBefore
-reading-first levels = refl
+pub carried-first : (levels : List ℕ) → unread ≡ carriedBefore levels 0
+unfolding carriedBefore
+carried-first levels = refl
 
-module _ (levels : List ℕ) (item : ℕ) {reading next : Reading} (before : reading ≡ readingBefore levels item)
-    (went : next ≡ readOn reading item (levelAt levels item)) where
-  pub reading-went : next ≡ readingBefore levels (item + 1)
-  reading-went = went ∙ rw (before, add-one) (reading-next levels item)
+module _ (levels : List ℕ) (item : ℕ) {carried next : Carried} (before : carried ≡ carriedBefore levels item)
+    (went : next ≡ readOn carried item (levelAt levels item)) where
+  pub carried-went : next ≡ carriedBefore levels (item + 1)
+  carried-went = went ∙ rw (before, add-one) (carried-next levels item)
 
   -- The two tests of the code are those of the message's end.
-  pub end-test : {stopped started : Bool} → stopped ≡ isStop (reading .edge) → started ≡ isStart (next .edge)
+  pub end-test : {stopped started : Bool} → stopped ≡ isStop (carried .edge) → started ≡ isStart (next .edge)
       → (stopped || started) ≡ pastEnd levels item
-  end-test p q = rw (p, q, reading-went, add-one, reading-start levels item, before, reading-stop levels item)
+  end-test p q = rw (p, q, carried-went, add-one, carried-start levels item, before, carried-stop levels item)
 
 -- Where the message ends, by what is left of the record.
 module _ (levels : List ℕ) (item : ℕ) where
@@ -74,32 +74,32 @@ module _ (levels : List ℕ) (item : ℕ) where
     unfolding endFrom
     end-more t = rw (left, t, add-one)
 
--- The place in the reading after an item of the record.
-reading-place : (levels : List ℕ) (item : ℕ) {reading : Reading} → reading ≡ readingBefore levels (item + 1)
-    → placeAt levels item ≡ reading .place
-unfolding readingBefore
-reading-place levels item e = rw (e, add-one)
+-- Where an item lies, by what is carried on from it.
+carried-lies : (levels : List ℕ) (item : ℕ) {carried : Carried} → carried ≡ carriedBefore levels (item + 1)
+    → liesAt levels item ≡ carried .lies
+unfolding carriedBefore
+carried-lies levels item e = rw (e, add-one)
 
-module _ (levels : List ℕ) (item : ℕ) {reading : Reading} (read : reading ≡ readingBefore levels (item + 1)) where
-  pub part-outside : reading .place ≡ Outside → Part item 0 ≡ messagePart levels item
-  part-outside h = rw (reading-place levels item read, h)
+module _ (levels : List ℕ) (item : ℕ) {carried : Carried} (read : carried ≡ carriedBefore levels (item + 1)) where
+  pub part-outside : carried .lies ≡ Outside → Part item 0 ≡ messagePart levels item
+  part-outside h = rw (carried-lies levels item read, h)
 
-  module _ {start end : ℕ} (h : reading .place ≡ Inside start) (e : end ≡ endAt levels item) where
+  module _ {start end : ℕ} (h : carried .lies ≡ Inside start) (e : end ≡ endAt levels item) where
     pub part-inside : Part start (end - start) ≡ messagePart levels item
-    part-inside = rw (reading-place levels item read, h, e)
+    part-inside = rw (carried-lies levels item read, h, e)
 
     pub part-order : item < length levels → start ≤ end
     part-order g =
-        let (last, p, s, q, m) = whole-message levels item start g (reading-place levels item read ∙ h) in
+        let (last, p, s, q, m) = whole-message levels item start g (carried-lies levels item read ∙ h) in
         omega arith
 
 -- The three ways through a call.
 module _ (levels : List ℕ) (item : ℕ) {bad : ℕ} (first : bad ≡ firstBadLevel levels) where
-  pub span-bad : bad < length levels → Refused NoItem bad ≡ spanOf levels item
+  pub span-bad : bad < length levels → NotFound NoItem bad ≡ spanOf levels item
   unfolding spanOf
-  span-bad h = rw (← first, lt-ltb bad (length levels) h) (ap (Refused NoItem) first)
+  span-bad h = rw (← first, lt-ltb bad (length levels) h) (ap (NotFound NoItem) first)
 
-  pub span-past : length levels ≤ bad → length levels ≤ item → Refused PastRecord 0 ≡ spanOf levels item
+  pub span-past : length levels ≤ bad → length levels ≤ item → NotFound PastRecord 0 ≡ spanOf levels item
   unfolding spanOf
   span-past h g = rw (← first, le-ltb bad (length levels) h, le-ltb item (length levels) g)
 
@@ -108,10 +108,10 @@ module _ (levels : List ℕ) (item : ℕ) {bad : ℕ} (first : bad ≡ firstBadL
   span-part h g = rw (← first, le-ltb bad (length levels) h, lt-ltb item (length levels) g)
 
 -- A part lies inside its record, whatever the call.
-place-within : (levels : List ℕ) (item : ℕ) (place : Place) → placeAt levels item ≡ place → item < length levels
-    → startOf (partFrom place item (endAt levels item)) + lengthOf (partFrom place item (endAt levels item)) ≤ length levels
-place-within levels item Outside e h = omega arith
-place-within levels item (Inside start) e h =
+lies-within : (levels : List ℕ) (item : ℕ) (lies : Whereabouts) → liesAt levels item ≡ lies → item < length levels
+    → startOf (partFrom lies item (endAt levels item)) + lengthOf (partFrom lies item (endAt levels item)) ≤ length levels
+lies-within levels item Outside e h = omega arith
+lies-within levels item (Inside start) e h =
     let (last, p, s, q, m) = whole-message levels item start h e in
     let v : last < length levels = m .within in
     omega arith
@@ -120,7 +120,7 @@ if-within : (levels : List ℕ) (item : ℕ) (bad inside : Bool) → ltb item (l
     → startOf (spanIf bad inside levels item) + lengthOf (spanIf bad inside levels item) ≤ length levels
 if-within levels item true inside e = omega arith
 if-within levels item false false e = omega arith
-if-within levels item false true e = place-within levels item (placeAt levels item) refl (ltb-true item (length levels) e)
+if-within levels item false true e = lies-within levels item (liesAt levels item) refl (ltb-true item (length levels) e)
 
 -- The part that the code takes is the one that was found.
 module _ (levels : List ℕ) (item : ℕ) {found : Found} {start count : ℕ} (e : found ≡ spanOf levels item)

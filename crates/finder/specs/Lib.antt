@@ -1,5 +1,5 @@
 pub mod Messages
-pub mod Reader
+pub mod Carried
 pub mod Find
 pub mod Extent
 pub mod Laws

@@ -6,12 +6,13 @@ use mathlib.Core.List.{List}
 use mathlib.Core.Logic.{_⊎_}
 use mathlib.Core.Bool.{Bool, true, false, cond, _||_}
 use lib.ListN.{length, getD}
+use Rattle.items.specs.First.{FirstAbove, NoneAbove}
 use Rattle.wire.specs.declared.Line.{Line}
 use Rattle.wire.specs.declared.Edge.{Edge}
 use Rattle.wire.specs.declared.Edge.the-variants.{Still, Start, Stop, Rise, Fall}
 use Rattle.wire.specs.Wire.{sclOf, sdaOf, edgeOf, lineNext, unseen, isStart}
-use Rattle.finder.specs.declared.Place.{Place}
-use Rattle.finder.specs.declared.Place.the-variants.{Outside, Inside}
+use Rattle.finder.specs.declared.Whereabouts.{Whereabouts}
+use Rattle.finder.specs.declared.Whereabouts.the-variants.{Outside, Inside}
 
 -- An item's level. Past the record it is 0, both lines low, which makes neither Start nor Stop.
 abbrev pub levelAt : List ℕ → ℕ → ℕ
@@ -47,15 +48,15 @@ stopBefore levels (suc item) = stopAt levels item
 
 -- Where an item lies: a Start opens a message; after a Stop an item lies in none; any other lies where the one before it
 -- lies. The tests: the item is a Start, the item before is a Stop.
-abbrev pub placed : Bool → Bool → Place → ℕ → Place
-placed true stopped before item = Inside item
-placed false true before item = Outside
-placed false false before item = before
+abbrev pub liesBy : Bool → Bool → Whereabouts → ℕ → Whereabouts
+liesBy true stopped before item = Inside item
+liesBy false true before item = Outside
+liesBy false false before item = before
 
 -- Nothing is seen before item 0, so it makes no edge and lies in no message.
-unfoldable pub placeAt : List ℕ → ℕ → Place
-placeAt levels zero = Outside
-placeAt levels (suc item) = placed (startAt levels (suc item)) (stopAt levels item) (placeAt levels item) (suc item)
+unfoldable pub liesAt : List ℕ → ℕ → Whereabouts
+liesAt levels zero = Outside
+liesAt levels (suc item) = liesBy (startAt levels (suc item)) (stopAt levels item) (liesAt levels item) (suc item)
 
 -- An item is past the message under way: the item before is its Stop, or this one is the next Start.
 abbrev pub pastEnd : List ℕ → ℕ → Bool
@@ -86,19 +87,16 @@ pub record IsMessage (levels : List ℕ) (start last : ℕ) : Type 0 where
   pub within : last < length levels
   pub ends : (stopAt levels last ≡ true) ⊎ ((startAt levels (suc last) ≡ true) ⊎ (suc last ≡ length levels))
 
--- Every level of the record is one of the four.
+-- Every level of the record is one of the four; the first item whose level is none of them.
 abbrev pub Good : List ℕ → Type 0
-Good levels = (k : ℕ) → k < length levels → levelAt levels k ≤ 3
+Good levels = NoneAbove 3 levels
 
--- The first item whose level is none of them.
-pub record FirstBad (levels : List ℕ) (item : ℕ) : Type 0 where
-  pub within : item < length levels
-  pub bad : 3 < levelAt levels item
-  pub good : (k : ℕ) → k < item → levelAt levels k ≤ 3
+abbrev pub FirstBad : List ℕ → ℕ → Type 0
+FirstBad levels item = FirstAbove 3 levels item
 
 -- The item lies in no message.
-abbrev pub Nowhere : List ℕ → ℕ → Type 0
-Nowhere levels item = (start last : ℕ) → IsMessage levels start last → start ≤ item → item ≤ last → ⊥
+abbrev pub InNoMessage : List ℕ → ℕ → Type 0
+InNoMessage levels item = (start last : ℕ) → IsMessage levels start last → start ≤ item → item ≤ last → ⊥
 
 -- The part is the message that the item lies in, all of it and no more.
 pub record TheMessage (levels : List ℕ) (item start count : ℕ) : Type 0 where

@@ -3,8 +3,8 @@ ghost use mathlib.Core.Path.{_≡_};
 ghost use Prim.Native.Nat.{_+_, _<_, _≤_};
 ghost use lib.ListN.{length};
 ghost use denote.Ref.{ptr};
-ghost use Rattle.finder.specs.Messages.{isStop, placed, endAt};
-ghost use Rattle.finder.specs.Reader.{unread, readOn, readingBefore};
+ghost use Rattle.finder.specs.Messages.{isStop, liesBy, endAt};
+ghost use Rattle.finder.specs.Carried.{unread, readOn, carriedBefore};
 ghost use Rattle.finder.specs.Find.{messagePart, spanOf, partOf, partPlace};
 use found::Found;
 use refusals::Refusal;
@@ -13,16 +13,16 @@ use wire::Line;
 use wire::Remembered;
 
 // Where an item lies: in no message, or in the one whose Start is the item given.
-pub enum Place {
+pub enum Whereabouts {
     Outside,
     Inside(usize),
 }
 
-// What is known after an item: the line, the edge that the item made, and where it lies.
-pub struct Reading {
+// What is carried on from an item: the line, the edge that the item made, and where it lies.
+pub struct Carried {
     pub line: Line,
     pub edge: Edge,
-    pub place: Place,
+    pub lies: Whereabouts,
 }
 
 fn is_stop(e: Edge) -> bool
@@ -38,77 +38,80 @@ fn is_stop(e: Edge) -> bool
 }
 
 // Where an item lies, by whether it is a Start, whether the item before is a Stop, and where that one lies.
-fn place_of(started: bool, stopped: bool, before: Place, item: usize) -> Place
-    ensures { λ r. ⌜ r ≡ placed started stopped before item ⌝ }
+fn lies_by(started: bool, stopped: bool, before: Whereabouts, item: usize) -> Whereabouts
+    ensures { λ r. ⌜ r ≡ liesBy started stopped before item ⌝ }
 {
     if started {
-        return Place::Inside(item);
+        return Whereabouts::Inside(item);
     }
-    if stopped { Place::Outside } else { before }
+    if stopped {
+        return Whereabouts::Outside;
+    }
+    before
 }
 
 // Before the first item.
-fn nothing_read() -> Reading
+fn nothing_read() -> Carried
     ensures { λ r. ⌜ r ≡ unread ⌝ }
 {
-    Reading {
+    Carried {
         line: Line {
             remembered: Remembered::Nothing,
             mark: false,
         },
         edge: Edge::Still,
-        place: Place::Outside,
+        lies: Whereabouts::Outside,
     }
 }
 
 // One item more.
-fn read_on(reading: Reading, item: usize, level: u8) -> Reading
-    ensures { λ r. ⌜ r ≡ readOn reading item level ⌝ }
+fn read_on(carried: Carried, item: usize, level: u8) -> Carried
+    ensures { λ r. ⌜ r ≡ readOn carried item level ⌝ }
 {
-    let line = reading.line;
-    let before = reading.edge;
-    let place = reading.place;
+    let line = carried.line;
+    let before = carried.edge;
+    let lies = carried.lies;
     let scl = level / 2 % 2 == 1;
     let sda = level / 1 % 2 == 1;
     let e = wire::edge_of(line, scl, sda);
     let next = wire::line_after(line.mark, e, scl, sda);
-    let here = place_of(wire::is_start(e), is_stop(before), place, item);
-    Reading {
+    let here = lies_by(wire::is_start(e), is_stop(before), lies, item);
+    Carried {
         line: next,
         edge: e,
-        place: here,
+        lies: here,
     }
 }
 
 // The first items of the record, count of them.
-fn read_to(levels: &[u8], count: usize) -> Reading
+fn read_to(levels: &[u8], count: usize) -> Carried
     requires { ⌜ count ≤ length (now levels) ⌝ }
-    ensures { λ r. ⌜ r ≡ readingBefore (now (levels .entry)) count ⌝ }
+    ensures { λ r. ⌜ r ≡ carriedBefore (now (levels .entry)) count ⌝ }
 {
-    let mut reading = nothing_read();
+    let mut carried = nothing_read();
     let mut item = 0;
     while item < count {
-        reading = read_on(reading, item, levels[item]);
+        carried = read_on(carried, item, levels[item]);
         item += 1;
     }
-    reading
+    carried
 }
 
-// The end of the message that the item lies in, from the reading after that item.
-fn end_after(levels: &[u8], first: Reading, item: usize) -> usize
-    requires { ⌜ (item < length (now levels)) × (first ≡ readingBefore (now levels) (item + 1)) ⌝ }
+// The end of the message that the item lies in, from what is carried on from that item.
+fn end_after(levels: &[u8], first: Carried, item: usize) -> usize
+    requires { ⌜ (item < length (now levels)) × (first ≡ carriedBefore (now levels) (item + 1)) ⌝ }
     ensures { λ r. ⌜ r ≡ endAt (now (levels .entry)) item ⌝ }
 {
-    let mut reading = first;
+    let mut carried = first;
     let mut end = item + 1;
     while end < levels.len() {
-        let before = reading.edge;
-        let next = read_on(reading, end, levels[end]);
+        let before = carried.edge;
+        let next = read_on(carried, end, levels[end]);
         let here = next.edge;
         if is_stop(before) | wire::is_start(here) {
             return end;
         }
-        reading = next;
+        carried = next;
         end += 1;
     }
     end
@@ -119,12 +122,12 @@ fn message_part(levels: &[u8], item: usize) -> Found
     requires { ⌜ item < length (now levels) ⌝ }
     ensures { λ r. ⌜ r ≡ messagePart (now (levels .entry)) item ⌝ }
 {
-    let reading = read_to(levels, item + 1);
-    let place = reading.place;
-    match place {
-        Place::Outside => Found::Part(item as u64, 0),
-        Place::Inside(start) => {
-            let end = end_after(levels, reading, item);
+    let carried = read_to(levels, item + 1);
+    let lies = carried.lies;
+    match lies {
+        Whereabouts::Outside => Found::Part(item as u64, 0),
+        Whereabouts::Inside(start) => {
+            let end = end_after(levels, carried, item);
             let count = end - start;
             Found::Part(start as u64, count as u64)
         }
@@ -138,10 +141,10 @@ pub fn span(levels: &[u8], item: u64) -> Found
     let at = item as usize;
     let bad = items::first_above(levels, 3);
     if bad < levels.len() {
-        return Found::Refused(Refusal::NoItem, bad as u64);
+        return Found::NotFound(Refusal::NoItem, bad as u64);
     }
     if levels.len() <= at {
-        return Found::Refused(Refusal::PastRecord, 0);
+        return Found::NotFound(Refusal::PastRecord, 0);
     }
     message_part(levels, at)
 }

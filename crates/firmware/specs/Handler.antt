@@ -1,8 +1,8 @@
 -- The handler (01, "Handler and plain device"): its set-up and what a call does.
 use Prim.Native.Nat.{ℕ}
-use mathlib.Core.Bool.{Bool, true, false, cond, _||_}
+use mathlib.Core.Bool.{Bool, true, false, cond, _&&_}
 use mathlib.Core.List.{List}
-use lib.Dec.{eqb, ltb}
+use lib.Dec.{leb}
 use Rattle.refusals.specs.declared.Refusal.the-variants.{NoWindow}
 use Rattle.mssp.specs.declared.Module.{Module}
 use Rattle.mssp.specs.Module.{moduleOf, setup, setSSPIF}
@@ -11,7 +11,7 @@ use Rattle.memory.specs.Memory.{Memory, memoryOf, peeked, laidOut, put}
 use Rattle.firmware.specs.declared.Handler.{Handler}
 use Rattle.firmware.specs.declared.State.{State}
 use Rattle.firmware.specs.declared.Made.{Made}
-use Rattle.firmware.specs.declared.Made.the-variants.{Ready, Refused}
+use Rattle.firmware.specs.declared.Made.the-variants.{Ready, NotMade}
 
 abbrev pub handlerOf : ℕ → ℕ → Bool → Handler
 handlerOf n pointer due = record { n = n; pointer = pointer; due = due }
@@ -19,9 +19,17 @@ handlerOf n pointer due = record { n = n; pointer = pointer; due = due }
 abbrev pub stateOf : Module → Handler → State
 stateOf m h = record { mssp = m; handler = h }
 
--- Set up with a length of 1 to 256: the module chosen, the pointer 0, none due. Any other length is refused.
+-- The largest n.
+abbrev pub longestWindow : ℕ
+longestWindow = 256
+
+-- A window has from 1 byte up to the largest n.
+abbrev pub isWindowLength : ℕ → Bool
+isWindowLength n = leb 1 n && leb n longestWindow
+
+-- Set up with a length that a window can have: the module chosen, the pointer 0, none due. Any other length is refused.
 abbrev pub setupOf : ℕ → ℕ → Made
-setupOf add n = cond (eqb n 0 || ltb 256 n) (Refused NoWindow) (Ready (stateOf (setup add) (handlerOf n 0 false)))
+setupOf add n = cond (isWindowLength n) (Ready (stateOf (setup add) (handlerOf n 0 false))) (NotMade NoWindow)
 
 -- What a call leaves: the state, and the bytes of the window.
 pub record Served : Type 0 where

@@ -4,14 +4,14 @@ use mathlib.Core.Path.{_≡_, refl, sym, ap, ap₂, _∙_}
 use mathlib.Core.Bool.{Bool, true, false, not, _&&_}
 use mathlib.Core.List.{List}
 use native.Mathlib.Omega.{arith}
-use lib.Dec.{eqb, leb}
+use lib.Dec.{T, eqb, leb, leb→le}
 use lib.ListN.{length}
 use borrow.Author.Tests.{not-true, not-false, leb-true, leb-false, le-leb, lt-leb}
-use Rattle.truth.specs.Tests.{by-test, and-first}
+use Rattle.truth.specs.Tests.{by-test, and-first, and-left, and-right}
 use Rattle.refusals.specs.declared.Refusal.the-variants.{NoWindow}
 use Rattle.refusals.specs.declared.Verdict.the-variants.{Done, Refused}
 use Rattle.firmware.specs.declared.State.{State}
-use Rattle.firmware.specs.Handler.{Served, served, acknowledged, addressed, sent, taken, serve, calledIf, called}
+use Rattle.firmware.specs.Handler.{longestWindow, isWindowLength, Served, served, acknowledged, addressed, sent, taken, serve, calledIf, called}
 use Rattle.firmware.specs.Window.{windowFits, windowOf, splice, inBuffer, calledIn, callOutcome, callChoice, callOf}
 
 module _ (s : State) (bytes : List ℕ) where
@@ -51,6 +51,14 @@ module _ (s : State) (bytes : List ℕ) where
             ap (λ (x : State). served x bytes) (rw cleared at f) ∙ sym (serving ∙ by-case false false w d)
 
 -- ---- the window
+-- Its length, by the test and by the numbers.
+pub length-within : (n : ℕ) → T (isWindowLength n) → (1 ≤ n) × (n ≤ longestWindow)
+length-within n t =
+    (leb→le 1 n (and-left (leb 1 n) (leb n longestWindow) t), leb→le n longestWindow (and-right (leb 1 n) (leb n longestWindow) t))
+
+pub within-length : (n : ℕ) → 1 ≤ n → n ≤ longestWindow → isWindowLength n ≡ true
+within-length n some most = rw (le-leb 1 n some, le-leb n longestWindow most)
+
 fits-shift : (long start n : ℕ) → start ≤ long → leb n (long - start) ≡ leb (start + n) long
 fits-shift long start n h =
     by-test (leb n (long - start))

@@ -2,11 +2,14 @@
 ghost use mathlib.Core.Path.{_≡_};
 ghost use Prim.Native.Nat.{_+_, _≤_};
 ghost use lib.ListN.{length};
-ghost use Rattle.firmware.specs.Handler.{setupOf, served, acknowledged, addressed, sent, taken, called};
+ghost use Rattle.firmware.specs.Handler.{isWindowLength, setupOf, served, acknowledged, addressed, sent, taken, called};
 ghost use Rattle.firmware.specs.Window.{windowFits, calledIn, callOutcome, callOf};
 use mssp::Module;
 use refusals::Refusal;
 use refusals::Verdict;
+
+// The largest n.
+pub const LONGEST_WINDOW: u64 = 256;
 
 // The handler's own variables: the window's length, the pointer, and whether a pointer byte is due.
 pub struct Handler {
@@ -22,7 +25,7 @@ pub struct State {
 
 pub enum Made {
     Ready(State),
-    Refused(Refusal),
+    NotMade(Refusal),
 }
 
 // What a call answers, and the state after it.
@@ -31,24 +34,29 @@ pub struct Called {
     pub state: State,
 }
 
-// A state set up afresh over n bytes, 1 to 256.
+// Whether a window can be n bytes long: from 1 up to the largest n.
+pub fn is_window_length(n: u64) -> bool
+    ensures { λ r. ⌜ r ≡ isWindowLength n ⌝ }
+{
+    (1 <= n) & (n <= LONGEST_WINDOW)
+}
+
+// A state set up afresh over n bytes.
 pub fn set_up(add: u8, n: u64) -> Made
     ensures { λ r. ⌜ r ≡ setupOf add n ⌝ }
 {
-    if n == 0 {
-        return Made::Refused(Refusal::NoWindow);
+    if is_window_length(n) {
+        Made::Ready(State {
+            mssp: mssp::set_up(add),
+            handler: Handler {
+                n: n as u16,
+                pointer: 0,
+                due: false,
+            },
+        })
+    } else {
+        Made::NotMade(Refusal::NoWindow)
     }
-    if 256 < n {
-        return Made::Refused(Refusal::NoWindow);
-    }
-    Made::Ready(State {
-        mssp: mssp::set_up(add),
-        handler: Handler {
-            n: n as u16,
-            pointer: 0,
-            due: false,
-        },
-    })
 }
 
 // SSPIF is cleared.
@@ -81,7 +89,7 @@ fn send(s: State, window: &[u8]) -> State
     let mut h = s.handler;
     let byte = memory::peek(window, h.pointer);
     let read = mssp::pick_module(m.live.da, m, effects::empty(m));
-    h.pointer = memory::step(h.n, h.pointer);
+    h.pointer = memory::pointer_on(h.n, h.pointer);
     State {
         mssp: effects::release(effects::load(read, byte)),
         handler: h,
@@ -100,7 +108,7 @@ fn take(s: State, window: &mut [u8]) -> State
         h.pointer = memory::aim(h.n, byte);
     } else {
         memory::store(window, h.pointer, byte);
-        h.pointer = memory::step(h.n, h.pointer);
+        h.pointer = memory::pointer_on(h.n, h.pointer);
     }
     h.due = false;
     State {

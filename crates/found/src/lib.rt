@@ -6,7 +6,7 @@ use refusals::Refusal;
 // The answer: a part's start and length, or why there is none and the item beside the refusal.
 pub enum Found {
     Part(u64, u64),
-    Refused(Refusal, u64),
+    NotFound(Refusal, u64),
 }
 
 // The refusal's number, 0 where there is none.
@@ -15,7 +15,7 @@ pub fn refusal_number(found: Found) -> u8
 {
     match found {
         Found::Part(_, _) => 0,
-        Found::Refused(why, _) => refusals::number(why),
+        Found::NotFound(why, _) => refusals::number(why),
     }
 }
 
@@ -25,7 +25,7 @@ pub fn bad_item(found: Found) -> u64
 {
     match found {
         Found::Part(_, _) => 0,
-        Found::Refused(_, item) => item,
+        Found::NotFound(_, item) => item,
     }
 }
 
@@ -35,7 +35,7 @@ pub fn start_of(found: Found) -> u64
 {
     match found {
         Found::Part(start, _) => start,
-        Found::Refused(_, _) => 0,
+        Found::NotFound(_, _) => 0,
     }
 }
 
@@ -45,6 +45,6 @@ pub fn length_of(found: Found) -> u64
 {
     match found {
         Found::Part(_, count) => count,
-        Found::Refused(_, _) => 0,
+        Found::NotFound(_, _) => 0,
     }
 }

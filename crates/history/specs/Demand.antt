@@ -2,18 +2,15 @@
 -- state is a state. `history::after` is proved to give that fold, for every list of items, every count and every state.
 use Prim.Native.Nat.{ℕ, suc, _<_, _/_}
 use mathlib.Core.Path.{_≡_, refl}
-use mathlib.Core.List.{List, [], _∷_, _++_}
+use mathlib.Core.List.{List, [], _∷_, _++_, map}
 use native.Mathlib.Omega.{arith}
 use lib.ListN.{length, take, getD}
 use lib.Seq.{take-suc}
-use Rattle.kept.specs.Kept.{sample-kept, access-read-kept, access-write-kept}
 use Rattle.firmware.specs.Handler.{Served}
-use Rattle.steps.specs.declared.Item.{Item}
-use Rattle.steps.specs.declared.Item.the-variants.{Sample, Call, Read, Write, Nothing}
 use Rattle.steps.specs.Step.{after, afterAll}
 use Rattle.trace.specs.Run.{itemAt}
 use Rattle.runkept.specs.States.{ValidState}
-use Rattle.runkept.specs.Kept.{called-kept}
+use Rattle.runkept.specs.Kept.{items-kept}
 use Rattle.history.specs.History.{itemOf, historyOf}
 
 pub history-joined : (w : Served) (xs ys : List ℕ) → historyOf w (xs ++ ys) ≡ historyOf (historyOf w xs) ys
@@ -32,16 +29,6 @@ after-each-number w items k h = rw (take-suc items k 0) (history-joined w (take 
 pub byte-item : (byte : ℕ) → byte < 65536 → itemOf byte ≡ itemAt byte
 byte-item byte h = let e : byte / 65536 ≡ 0 = omega arith in rw e
 
-item-kept : (w : Served) (item : Item) → ValidState (w .state) → ValidState (after w item .state)
-item-kept w (Sample scl sda) v = record { mssp = sample-kept (w .state .mssp) scl sda (v .mssp); handler = v .handler }
-item-kept w Call v = called-kept (w .state) (w .bytes) v
-item-kept w (Read number) v = record { mssp = access-read-kept (w .state .mssp) number (v .mssp); handler = v .handler }
-item-kept w (Write number value) v =
-    record { mssp = access-write-kept (w .state .mssp) number value (v .mssp); handler = v .handler }
-item-kept w Nothing v = v
-
 -- After every history a state is a state.
 pub history-kept : (w : Served) (items : List ℕ) → ValidState (w .state) → ValidState (historyOf w items .state)
-unfolding afterAll
-history-kept w [] v = v
-history-kept w (x ∷ xs) v = history-kept (after w (itemOf x)) xs (item-kept w (itemOf x) v)
+history-kept w items v = items-kept w (map itemOf items) v

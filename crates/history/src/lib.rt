@@ -21,7 +21,7 @@ fn item_of(code: u32) -> Item
     } else if code == 4 {
         Item::Call
     } else {
-        Item::Nothing
+        Item::NotAnItem
     }
 }
 

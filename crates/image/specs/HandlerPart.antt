@@ -3,10 +3,10 @@ use Prim.Native.Nat.{ℕ, _+_, _*_, _/_, _%_}
 use mathlib.Core.Bool.{Bool, _&&_}
 use mathlib.Core.List.{List, [], _∷_}
 use mir.Val.{boolByte}
-use lib.Dec.{eqb, leb, ltb}
+use lib.Dec.{eqb, ltb}
 use lib.ListN.{getD}
 use Rattle.firmware.specs.declared.Handler.{Handler}
-use Rattle.firmware.specs.Handler.{handlerOf}
+use Rattle.firmware.specs.Handler.{isWindowLength, handlerOf}
 
 -- A number of two bytes.
 abbrev pub low : ℕ → ℕ
@@ -26,6 +26,6 @@ handlerPart h =
 abbrev pub handlerFrom : List ℕ → Handler
 handlerFrom b = handlerOf (word (getD b 0 0) (getD b 1 0)) (word (getD b 2 0) (getD b 3 0)) (eqb (getD b 4 0) 1)
 
--- n from 1 to 256, and a pointer below n (01, "Calls, refusals and their order").
+-- An n that a window can have, and a pointer below n (01, "Calls, refusals and their order").
 abbrev pub handlerValid : Handler → Bool
-handlerValid h = leb 1 (h .n) && leb (h .n) 256 && ltb (h .pointer) (h .n)
+handlerValid h = isWindowLength (h .n) && ltb (h .pointer) (h .n)

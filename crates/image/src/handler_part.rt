@@ -1,9 +1,8 @@
 // The handler's part of an image: n and the pointer, low byte first, and whether a pointer is due.
 ghost use mathlib.Core.Path.{_≡_};
-ghost use Prim.Native.Nat.{_≤_};
-ghost use lib.ListN.{length};
 ghost use Rattle.image.specs.HandlerPart.{low as lowOf, high as highOf, word as wordOf, handlerPart, handlerFrom, handlerValid};
 use firmware::Handler;
+use memory::peek;
 
 fn low(n: u16) -> u8
     ensures { λ r. ⌜ r ≡ lowOf n ⌝ }
@@ -35,20 +34,20 @@ pub fn handler_part(h: Handler) -> [u8; 5]
     ]
 }
 
+// The handler that bytes name; bytes past their end are 0.
 pub fn handler_from(b: &[u8]) -> Handler
-    requires { ⌜ 5 ≤ length (now b) ⌝ }
     ensures { λ r. ⌜ r ≡ handlerFrom (now (b .entry)) ⌝ }
 {
     Handler {
-        n: word(b[0], b[1]),
-        pointer: word(b[2], b[3]),
-        due: b[4] == 1,
+        n: word(peek(b, 0), peek(b, 1)),
+        pointer: word(peek(b, 2), peek(b, 3)),
+        due: peek(b, 4) == 1,
     }
 }
 
-// n from 1 to 256, and a pointer below it.
+// An n that a window can have, and a pointer below it.
 pub fn handler_valid(h: Handler) -> bool
     ensures { λ r. ⌜ r ≡ handlerValid h ⌝ }
 {
-    (1 <= h.n) & (h.n <= 256) & (h.pointer < h.n)
+    firmware::is_window_length(h.n as u64) & (h.pointer < h.n)
 }

@@ -7,19 +7,19 @@ use native.Mathlib.Omega.{arith}
 use lib.Dec.{leb, ltb}
 use lib.ListN.{length, getD}
 use borrow.Author.Tests.{leb-true, leb-false, ltb-true, ltb-false}
-use Rattle.items.specs.First.{span, firstAbove}
+use Rattle.items.specs.First.{leading, firstAbove, FirstAbove, NoneAbove}
 
 within-if : (good : Bool) (k n : ℕ) → k ≤ n → cond good (suc k) 0 ≤ suc n
 within-if true k n h = omega arith
 within-if false k n h = omega arith
 
-pub span-within : (good : ℕ → Bool) (items : List ℕ) → span good items ≤ length items
-unfolding span
-span-within good [] = omega arith
-span-within good (x ∷ xs) = within-if (good x) (span good xs) (length xs) (span-within good xs)
+pub leading-within : (good : ℕ → Bool) (items : List ℕ) → leading good items ≤ length items
+unfolding leading
+leading-within good [] = omega arith
+leading-within good (x ∷ xs) = within-if (good x) (leading good xs) (length xs) (leading-within good xs)
 
 pub first-within : (most : ℕ) (items : List ℕ) → firstAbove most items ≤ length items
-first-within most items = span-within (λ (x : ℕ). leb x most) items
+first-within most items = leading-within (λ (x : ℕ). leb x most) items
 
 before-if :
     (most : ℕ) (good : Bool) (x : ℕ) (xs : List ℕ) (k : ℕ) → leb x most ≡ good → ((i : ℕ) → i < k → getD xs i 0 ≤ most)
@@ -30,7 +30,7 @@ before-if most false x xs k e f i h = absurd (omega arith)
 
 -- Every byte before it is an item.
 pub before-first : (most : ℕ) (items : List ℕ) (i : ℕ) → i < firstAbove most items → getD items i 0 ≤ most
-unfolding span
+unfolding leading
 before-first most [] i h = absurd (omega arith)
 before-first most (x ∷ xs) i h = before-if most (leb x most) x xs (firstAbove most xs) refl (before-first most xs) i h
 
@@ -42,9 +42,17 @@ at-if most false x xs k e f h = leb-false x most e
 
 -- It is none itself, unless the trace has ended.
 pub at-first : (most : ℕ) (items : List ℕ) → firstAbove most items < length items → most < getD items (firstAbove most items) 0
-unfolding span
+unfolding leading
 at-first most [] h = absurd (omega arith)
 at-first most (x ∷ xs) h = at-if most (leb x most) x xs (firstAbove most xs) refl (at-first most xs) h
+
+-- So there is a first one, or none.
+module _ (most : ℕ) (items : List ℕ) where
+  pub first-above : firstAbove most items < length items → FirstAbove most items (firstAbove most items)
+  first-above h = record { within = h; above = at-first most items h; before = before-first most items }
+
+  pub none-above : length items ≤ firstAbove most items → NoneAbove most items
+  none-above h k l = before-first most items k (omega arith)
 
 -- No other number is: before it items, at it none or the trace's end.
 pub first-only :
@@ -67,3 +75,9 @@ first-only most items k h f g = earlier (ltb k (firstAbove most items)) refl
         let b = g (omega (arith, first-within most items)) in
         absurd (omega arith)
     earlier false e = later (ltb (firstAbove most items) k) refl (ltb-false k (firstAbove most items) e)
+
+pub one-first : {most : ℕ} {items : List ℕ} {k : ℕ} → FirstAbove most items k → k ≡ firstAbove most items
+one-first {most} {items} {k} f = let w = f .within in first-only most items k (omega arith) (f .before) (λ h. f .above)
+
+pub none-first : (most : ℕ) (items : List ℕ) → NoneAbove most items → length items ≡ firstAbove most items
+none-first most items none = first-only most items (length items) (omega arith) none (λ h. absurd (omega arith))

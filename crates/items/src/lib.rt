@@ -77,15 +77,18 @@ pub fn first_above(items: &[u8], most: u8) -> usize
     at
 }
 
-// The number of the first byte from a place on that differs from an item; the length where there is none.
+// The number of the first byte from a place on that differs from an item; the length where there is none. From a place past
+// the end it is that place.
 pub fn first_other(items: &[u8], from: usize, item: u8) -> usize
-    requires { ⌜ from ≤ length (now items) ⌝ }
     ensures { λ r. ⌜ r ≡ from + sames item (drop from (now (items .entry))) ⌝ }
 {
     if from < items.len() {
         if items[from] != item {
             return from;
         }
+    }
+    if from > items.len() {
+        return from;
     }
     let mut at = past_same(items, from, item);
     while at < items.len() {

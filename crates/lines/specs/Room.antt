@@ -12,9 +12,8 @@ use borrow.Author.Tests.{ltb-false}
 use Rattle.wire.specs.declared.Bits.{Bits}
 use Rattle.wire.specs.declared.Remembered.{Remembered}
 use Rattle.wire.specs.declared.Remembered.the-variants.{Nothing, Wire}
-use Rattle.wire.specs.Byte.{none}
 use Rattle.wire.specs.Byte.{whole as wholeBits}
-use Rattle.wire.specs.Wire.{onWire, edgeOf}
+use Rattle.wire.specs.Wire.{onWire}
 use Rattle.mssp.specs.Drivers.{sclPulled, sdaPulled}
 use Rattle.memory.specs.Memory.{Memory, modulo, put}
 use Rattle.memory.specs.Laws.{modulo-below}
@@ -27,10 +26,11 @@ use Rattle.reader.specs.declared.Place.the-variants.{Idle, Within, Ending}
 use Rattle.reader.specs.declared.Heard.{Heard}
 use Rattle.reader.specs.declared.Heard.the-variants.{Silence, Started, Stopped, Byte}
 use Rattle.reader.specs.declared.Reader.{Reader}
-use Rattle.reader.specs.Reader.{withinFall, fallPlace, risePlace, fallHeard, heardAt, readerOf, readerAfter}
+use Rattle.reader.specs.Reader.{withinFall, fallPlace, risePlace, fallHeard, readerAfter, heardOf}
+use Rattle.reader.specs.Laws.{Marks, no-mark, new-mark, marks-kept}
 use Rattle.steps.specs.declared.Item.{Item}
 use Rattle.steps.specs.declared.Item.the-variants.{Sample, Call, Read, Write}
-use Rattle.steps.specs.declared.Item.the-variants.{Nothing as NotAnItem}
+use Rattle.steps.specs.declared.Item.the-variants.{NotAnItem}
 use Rattle.input.specs.Laws.{found, found-short}
 use Rattle.input.specs.Input.{Parsed, all, foreign, parse}
 use Rattle.watch.specs.declared.World.{World}
@@ -95,15 +95,6 @@ placeCredit (Ending first byte ninth) = 1
 abbrev credit : Reader → ℕ
 credit r = lineCredit (r .line .mark) (r .line .remembered) + placeCredit (r .place)
 
--- The mark of a Start stands only right after it.
-data Marks : Reader → Type 0 where
-  unmarked : {seen : Remembered} {place : Place} → Marks (readerOf (record { remembered = seen; mark = false }) place)
-  marked : {sda : Bool} → Marks (readerOf (record { remembered = Wire true sda; mark = true }) (Within true none))
-
-record Spent (r : Reader) (scl sda : Bool) : Type 0 where
-  marks : Marks (readerAfter r scl sda)
-  paid : weight (heardAt (r .place) (edgeOf (r .line) scl sda)) + credit (readerAfter r scl sda) ≤ 1 + credit r
-
 rise-credit : (place : Place) (sda : Bool) → placeCredit (risePlace place sda) ≡ placeCredit place
 rise-credit Idle sda = refl
 rise-credit (Within first bits) sda = refl
@@ -119,21 +110,23 @@ fall-credit (Within first bits) = omega (arith, within-credit (wholeBits bits) f
 fall-credit (Ending first byte Waiting) = omega arith
 fall-credit (Ending first byte (Got level)) = omega arith
 
-spent : {r : Reader} → Marks r → (scl sda : Bool) → Spent r scl sda
-spent (unmarked {seen = Nothing}) true true = record { marks = unmarked; paid = omega arith }
-spent (unmarked {seen = Nothing}) true false = record { marks = unmarked; paid = omega arith }
-spent (unmarked {seen = Nothing}) false sda = record { marks = unmarked; paid = omega arith }
-spent (unmarked {seen = Wire false before}) false sda = record { marks = unmarked; paid = omega arith }
-spent (unmarked {seen = Wire false before} {place = place}) true true = record { marks = unmarked; paid = omega (arith, rise-credit place true) }
-spent (unmarked {seen = Wire false before} {place = place}) true false = record { marks = unmarked; paid = omega (arith, rise-credit place false) }
-spent (unmarked {seen = Wire true true} {place = place}) false sda = record { marks = unmarked; paid = omega (arith, fall-credit place) }
-spent (unmarked {seen = Wire true false} {place = place}) false sda = record { marks = unmarked; paid = omega (arith, fall-credit place) }
-spent (unmarked {seen = Wire true true}) true true = record { marks = unmarked; paid = omega arith }
-spent (unmarked {seen = Wire true true}) true false = record { marks = marked; paid = omega arith }
-spent (unmarked {seen = Wire true false}) true true = record { marks = unmarked; paid = omega arith }
-spent (unmarked {seen = Wire true false}) true false = record { marks = unmarked; paid = omega arith }
-spent marked true sda = record { marks = marked; paid = omega arith }
-spent marked false sda = record { marks = unmarked; paid = omega arith }
+paid :
+    {r : Reader} → Marks r → (scl sda : Bool)
+    → weight (heardOf r scl sda) + credit (readerAfter r scl sda) ≤ 1 + credit r
+paid (no-mark {seen = Nothing}) true true = omega arith
+paid (no-mark {seen = Nothing}) true false = omega arith
+paid (no-mark {seen = Nothing}) false sda = omega arith
+paid (no-mark {seen = Wire false before}) false sda = omega arith
+paid (no-mark {seen = Wire false before} {place = place}) true true = omega (arith, rise-credit place true)
+paid (no-mark {seen = Wire false before} {place = place}) true false = omega (arith, rise-credit place false)
+paid (no-mark {seen = Wire true true} {place = place}) false sda = omega (arith, fall-credit place)
+paid (no-mark {seen = Wire true false} {place = place}) false sda = omega (arith, fall-credit place)
+paid (no-mark {seen = Wire true true}) true true = omega arith
+paid (no-mark {seen = Wire true true}) true false = omega arith
+paid (no-mark {seen = Wire true false}) true true = omega arith
+paid (no-mark {seen = Wire true false}) true false = omega arith
+paid new-mark true sda = omega arith
+paid new-mark false sda = omega arith
 
 -- ---- sixteen bytes for each event
 line-room : (item pointer : ℕ) → item < 100000 → pointer < 32 → (heard : Heard) → length (eventLine item heard pointer) ≤ 8 * weight heard
@@ -149,8 +142,9 @@ paid-item :
     → Marks (sceneAfter w memory x .watched .world .reader)
     × (weight (sceneAfter w memory x .watched .heard) + credit (sceneAfter w memory x .watched .world .reader) ≤ 1 + credit (w .reader))
 paid-item w memory (Sample scl sda) m =
-    let k = spent m (onWire (sclPulled (w .state .mssp .phase)) scl) (onWire (sdaPulled (w .state .mssp .phase)) sda) in
-    (k .marks, k .paid)
+    let l : Bool = onWire (sclPulled (w .state .mssp .phase)) scl in
+    let d : Bool = onWire (sdaPulled (w .state .mssp .phase)) sda in
+    (marks-kept l d m, paid m l d)
 paid-item w memory Call m = (m, omega arith)
 paid-item w memory (Read number) m = (m, omega arith)
 paid-item w memory (Write number value) m = (m, omega arith)
@@ -177,7 +171,7 @@ parsed-room (all items) h =
     let lines : List ℕ = linesFrom worldAfresh memoryAfresh 0 items in
     let a = length-append header (lines ++ numbered (said "end ") (length items)) in
     let b = length-append lines (numbered (said "end ") (length items)) in
-    let k = lines-room worldAfresh memoryAfresh 0 items (record { long = refl; inside = omega arith }) unmarked (omega arith) in
+    let k = lines-room worldAfresh memoryAfresh 0 items (record { long = refl; inside = omega arith }) no-mark (omega arith) in
     omega (arith, numbered-room (said "end ") (length items) (omega arith))
 parsed-room (foreign n) h = omega (arith, numbered-room (said "refused 4 at ") n (omega arith))
 

@@ -4,7 +4,7 @@ use mathlib.Core.Path.{_≡_, refl}
 use mathlib.Core.List.{List, []}
 use Rattle.reader.specs.declared.Heard.the-variants.{Silence}
 use Rattle.steps.specs.declared.Item.{Item}
-use Rattle.steps.specs.declared.Item.the-variants.{Sample, Call, Read, Write, Nothing}
+use Rattle.steps.specs.declared.Item.the-variants.{Sample, Call, Read, Write, NotAnItem}
 use Rattle.input.specs.Input.{parse}
 use Rattle.watch.specs.declared.World.{World}
 use Rattle.watch.specs.Watch.{sceneAfter}
@@ -29,4 +29,4 @@ pointer-at-event w memory (Sample scl sda) h = refl
 pointer-at-event w memory Call h = absurd (h refl)
 pointer-at-event w memory (Read number) h = refl
 pointer-at-event w memory (Write number value) h = refl
-pointer-at-event w memory Nothing h = refl
+pointer-at-event w memory NotAnItem h = refl

@@ -98,7 +98,7 @@ fn put_events(input: &[u8], output: &mut [u8], at: usize) -> usize
 {
     match firmware::set_up(0x30, 32) {
         Made::Ready(state) => put_lines(state, input, output, at),
-        Made::Refused(_) => at,
+        Made::NotMade(_) => at,
     }
 }
 

@@ -23,13 +23,13 @@ pub fn aim(n: u16, byte: u8) -> u16
 }
 
 // The pointer, one on.
-pub fn step(n: u16, pointer: u16) -> u16
+pub fn pointer_on(n: u16, pointer: u16) -> u16
     ensures { λ r. ⌜ r ≡ pointerOn n pointer ⌝ }
 {
     wrap((pointer as u32) + 1, n)
 }
 
-// The byte at the pointer.
+// The byte at the pointer, or at another place of some bytes; 0 past their end.
 pub fn peek(bytes: &[u8], pointer: u16) -> u8
     ensures { λ r. ⌜ r ≡ getD (now (bytes .entry)) pointer 0 ⌝ }
 {

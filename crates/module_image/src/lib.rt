@@ -1,8 +1,7 @@
 // The module's part of an image: the registers as they read, the phase with its parts, and the line. And the module that bytes name.
 ghost use mathlib.Core.Path.{_≡_};
-ghost use Prim.Native.Nat.{_≤_};
-ghost use lib.ListN.{length};
-ghost use Rattle.module_image.specs.ModulePart.{moduleLength, modulePart, configFrom, liveFrom, moduleFrom};
+ghost use Rattle.module_image.specs.ModulePart.{modulePart, configFrom, liveFrom, moduleFrom};
+use memory::peek;
 use mssp::Config;
 use mssp::Live;
 use mssp::Module;
@@ -82,17 +81,21 @@ fn live_from(buf: u8, stat: u8, con1: u8, con2: u8, con3: u8, flag: u8) -> Live
     }
 }
 
+// The module that bytes name; bytes past their end are 0.
 pub fn module_from(b: &[u8]) -> Module
-    requires { ⌜ moduleLength ≤ length (now b) ⌝ }
     ensures { λ r. ⌜ r ≡ moduleFrom (now (b .entry)) ⌝ }
 {
+    let stat = peek(b, 1);
+    let con1 = peek(b, 2);
+    let con2 = peek(b, 3);
+    let con3 = peek(b, 4);
     Module {
-        config: config_from(b[1], b[2], b[3], b[4], b[5], b[6]),
-        live: live_from(b[0], b[1], b[2], b[3], b[4], b[7]),
-        phase: phase_image::phase_from(b[8], b[9], b[10], b[11] == 1),
+        config: config_from(stat, con1, con2, con3, peek(b, 5), peek(b, 6)),
+        live: live_from(peek(b, 0), stat, con1, con2, con3, peek(b, 7)),
+        phase: phase_image::phase_from(peek(b, 8), peek(b, 9), peek(b, 10), peek(b, 11) == 1),
         line: Line {
-            remembered: phase_image::wire_from(b[12]),
-            mark: b[13] == 1,
+            remembered: phase_image::wire_from(peek(b, 12)),
+            mark: peek(b, 13) == 1,
         },
     }
 }

@@ -78,7 +78,7 @@ owes add held scl (Within false bits) turn = owesBit held scl bits turn
 owes add held scl (Ending true byte ninth) turn = own add byte
 owes add held scl (Ending false byte ninth) turn = owesLater turn
 
--- The device as code keeps it: length, pointer and turn by value, the memory's bytes leftDevice.
+-- The device as code keeps it: length, pointer and turn by value, the memory's bytes lent.
 abbrev pub deviceOf : ℕ → ℕ → Turn → Device
 deviceOf n pointer turn = record { n = n; pointer = pointer; turn = turn }
 
@@ -95,8 +95,9 @@ pub record LeftDevice : Type 0 where
 abbrev pub leftDevice : Device → List ℕ → LeftDevice
 leftDevice d bytes = record { device = d; bytes = bytes }
 
-abbrev pub kept : ℕ → Plain → LeftDevice
-kept n p = leftDevice (deviceOf n (p .memory .pointer) (p .turn)) (p .memory .bytes)
+-- What code leaves of a device and of its memory's bytes.
+abbrev pub leftOf : ℕ → Plain → LeftDevice
+leftOf n p = leftDevice (deviceOf n (p .memory .pointer) (p .turn)) (p .memory .bytes)
 
 abbrev pub turned : Device → Turn → Device
 turned d turn = deviceOf (d .n) (d .pointer) turn

@@ -3,7 +3,7 @@ ghost use mathlib.Core.Path.{_≡_};
 ghost use mathlib.Core.Bool.{false};
 ghost use Rattle.wire.specs.Byte.{bit};
 ghost use Rattle.memory.specs.Memory.{put};
-ghost use Rattle.plain.specs.Device.{own, plainOf, firstByte, laterByte, hears, deviceMemory, deviceIs, leftDevice, kept, turned, layingOut, placeOf, owesBit, owesLater, owes};
+ghost use Rattle.plain.specs.Device.{own, plainOf, firstByte, laterByte, hears, deviceMemory, deviceIs, leftDevice, leftOf, turned, layingOut, placeOf, owesBit, owesLater, owes};
 use reader::Heard;
 use reader::Place;
 use wire::Bits;
@@ -41,7 +41,7 @@ fn lay_out(d: Device, memory: &[u8]) -> Device
     let byte = memory::peek(memory, d.pointer);
     Device {
         n: d.n,
-        pointer: memory::step(d.n, d.pointer),
+        pointer: memory::pointer_on(d.n, d.pointer),
         turn: Turn::Reading(byte),
     }
 }
@@ -55,7 +55,7 @@ fn with_turn(d: Device, turn: Turn) -> Device
 // The first byte after a Start.
 fn hear_first(d: Device, add: u8, byte: u8, memory: &[u8]) -> Device
     ensures { λ r. ⌜ leftDevice r (now (memory .entry))
-        ≡ kept (d .n) (firstByte (d .n) (own add byte) (bit 0 byte) (deviceMemory d (now (memory .entry)))) ⌝ }
+        ≡ leftOf (d .n) (firstByte (d .n) (own add byte) (bit 0 byte) (deviceMemory d (now (memory .entry)))) ⌝ }
 {
     if is_own(add, byte) {
         if byte / 1 % 2 == 1 {
@@ -71,7 +71,7 @@ fn hear_first(d: Device, add: u8, byte: u8, memory: &[u8]) -> Device
 // A byte of a write turn: the pointer where one is due, else stored.
 fn take_byte(d: Device, due: bool, byte: u8, memory: &mut [u8]) -> Device
     ensures { λ r. ⌜ leftDevice r (now (memory .exit))
-        ≡ kept (d .n) (plainOf (put (d .n) due byte (deviceMemory d (now (memory .entry)))) (Turn.Writing false)) ⌝ }
+        ≡ leftOf (d .n) (plainOf (put (d .n) due byte (deviceMemory d (now (memory .entry)))) (Turn.Writing false)) ⌝ }
 {
     let n = d.n;
     let at = d.pointer;
@@ -85,7 +85,7 @@ fn take_byte(d: Device, due: bool, byte: u8, memory: &mut [u8]) -> Device
         memory::store(memory, at, byte);
         Device {
             n: n,
-            pointer: memory::step(n, at),
+            pointer: memory::pointer_on(n, at),
             turn: Turn::Writing(false),
         }
     }
@@ -94,7 +94,7 @@ fn take_byte(d: Device, due: bool, byte: u8, memory: &mut [u8]) -> Device
 // A later byte, with the level of its ninth clock.
 fn hear_later(d: Device, byte: u8, level: bool, memory: &mut [u8]) -> Device
     ensures { λ r. ⌜ leftDevice r (now (memory .exit))
-        ≡ kept (d .n) (laterByte (d .n) byte (d .turn) level (deviceMemory d (now (memory .entry)))) ⌝ }
+        ≡ leftOf (d .n) (laterByte (d .n) byte (d .turn) level (deviceMemory d (now (memory .entry)))) ⌝ }
 {
     let turn = d.turn;
     match turn {
@@ -113,7 +113,7 @@ fn hear_later(d: Device, byte: u8, level: bool, memory: &mut [u8]) -> Device
 // What the device does with what it hears.
 pub fn hear(d: Device, add: u8, heard: Heard, memory: &mut [u8]) -> Device
     ensures { λ r. ⌜ leftDevice r (now (memory .exit))
-        ≡ kept (d .n) (hears (d .n) add heard (deviceIs d (now (memory .entry)))) ⌝ }
+        ≡ leftOf (d .n) (hears (d .n) add heard (deviceIs d (now (memory .entry)))) ⌝ }
 {
     match heard {
         Heard::Silence => d,

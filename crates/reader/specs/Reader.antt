@@ -4,6 +4,7 @@ use Prim.Native.Nat.{ℕ}
 use mathlib.Core.Bool.{Bool, true, false}
 use Rattle.wire.specs.declared.Bits.{Bits}
 use Rattle.wire.specs.declared.Line.{Line}
+use Rattle.wire.specs.declared.Remembered.{Remembered}
 use Rattle.wire.specs.declared.Edge.{Edge}
 use Rattle.wire.specs.declared.Edge.the-variants.{Still, Start, Stop, Rise, Fall}
 use Rattle.wire.specs.Byte.{none, pushed, whole}
@@ -60,12 +61,19 @@ heardAt place Stop = Stopped
 heardAt place (Rise sda) = Silence
 heardAt place Fall = fallHeard place
 
+abbrev pub line : Remembered → Bool → Line
+line seen mark = record { remembered = seen; mark = mark }
+
 abbrev pub readerOf : Line → Place → Reader
 readerOf line place = record { line = line; place = place }
 
 -- One wire level more; nothing else comes in.
 abbrev pub readerAfter : Reader → Bool → Bool → Reader
 readerAfter r scl sda = readerOf (lineNext (r .line) scl sda) (placeAfter (r .place) (edgeOf (r .line) scl sda))
+
+-- What is heard of that level.
+abbrev pub heardOf : Reader → Bool → Bool → Heard
+heardOf r scl sda = heardAt (r .place) (edgeOf (r .line) scl sda)
 
 -- Before the first level.
 abbrev pub readerAfresh : Reader

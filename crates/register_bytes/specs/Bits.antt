@@ -52,7 +52,7 @@ tested : Everywhere 8 packed
 tested = everywhere 8 packed tt
 
 -- The law, bit by bit.
-pub record Bits (v : ℕ) (b7 b6 b5 b4 b3 b2 b1 b0 : Bool) : Type 0 where
+pub record EightBits (v : ℕ) (b7 b6 b5 b4 b3 b2 b1 b0 : Bool) : Type 0 where
   pub is7 : bit 7 v ≡ b7
   pub is6 : bit 6 v ≡ b6
   pub is5 : bit 5 v ≡ b5
@@ -62,7 +62,7 @@ pub record Bits (v : ℕ) (b7 b6 b5 b4 b3 b2 b1 b0 : Bool) : Type 0 where
   pub is1 : bit 1 v ≡ b1
   pub is0 : bit 0 v ≡ b0
 
-pub bits-back : (b7 b6 b5 b4 b3 b2 b1 b0 : Bool) → Bits (byteOf b7 b6 b5 b4 b3 b2 b1 b0) b7 b6 b5 b4 b3 b2 b1 b0
+pub bits-back : (b7 b6 b5 b4 b3 b2 b1 b0 : Bool) → EightBits (byteOf b7 b6 b5 b4 b3 b2 b1 b0) b7 b6 b5 b4 b3 b2 b1 b0
 bits-back b7 b6 b5 b4 b3 b2 b1 b0 =
     let t = tested b7 b6 b5 b4 b3 b2 b1 b0 in
     let v : ℕ = byteOf b7 b6 b5 b4 b3 b2 b1 b0 in

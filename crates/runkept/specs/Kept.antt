@@ -1,28 +1,29 @@
 -- A state stays a state, the module and the handler: after set-up, and after every handler call, item and run.
 use Prim.Native.Nat.{ℕ, _+_, _<_}
-use mathlib.Core.Path.{_≡_, refl}
-use mathlib.Core.Bool.{Bool, true, false, true≢false, cond, _||_}
-use mathlib.Core.List.{List, [], _∷_}
+use mathlib.Core.Path.{_≡_, refl, sym, subst}
+use mathlib.Core.Bool.{Bool, true, false, cond}
+use mathlib.Core.List.{List, [], _∷_, map}
 use native.Mathlib.Omega.{arith}
-use lib.Dec.{eqb, ltb}
+use lib.Dec.{T, ltb}
 use lib.ListN.{length}
-use borrow.Author.Tests.{eqb-false, ltb-false}
 use Rattle.refusals.specs.declared.Refusal.the-variants.{NoWindow}
-use Rattle.wire.specs.Wire.{sclOf, sdaOf}
 use Rattle.mssp.specs.declared.Module.{Module}
 use Rattle.mssp.specs.Module.{setup}
 use Rattle.effects.specs.Effects.{emptied, loaded}
 use Rattle.mssp.specs.Valid.{Valid}
 use Rattle.registers.specs.declared.Register.the-variants.{Buf}
-use Rattle.kept.specs.Kept.{setup-valid, sample-kept, read-kept, write-kept, released-kept}
+use Rattle.kept.specs.Kept.{setup-valid, sample-kept, read-kept, write-kept, released-kept, access-read-kept, access-write-kept}
 use Rattle.memory.specs.Memory.{Memory, peeked, put}
-use Rattle.memory.specs.Laws.{positive, modulo-below}
+use Rattle.memory.specs.Laws.{modulo-below}
 use Rattle.firmware.specs.declared.State.{State}
-use Rattle.firmware.specs.declared.Made.the-variants.{Ready, Refused}
-use Rattle.firmware.specs.Handler.{handlerOf, stateOf, setupOf, memoryIn, acknowledged, serve, calledIf, called}
+use Rattle.firmware.specs.declared.Made.the-variants.{Ready, NotMade}
+use Rattle.firmware.specs.Handler.{Served, served, handlerOf, stateOf, isWindowLength, setupOf, memoryIn, acknowledged, serve, calledIf, called}
 use Rattle.firmware.specs.Window.{windowFits, windowOf}
-use Rattle.steps.specs.Step.{afterAll}
-use Rattle.trace.specs.Run.{firstBad, byteStepIf, byteStep, runOf}
+use Rattle.firmware.specs.Laws.{length-within}
+use Rattle.steps.specs.declared.Item.{Item}
+use Rattle.steps.specs.declared.Item.the-variants.{Sample, Call, Read, Write, NotAnItem}
+use Rattle.steps.specs.Step.{after, afterAll}
+use Rattle.trace.specs.Run.{firstBad, itemAt, runOf}
 use Rattle.trace.specs.Window.{runChoice, runInOf}
 use Rattle.runkept.specs.States.{ValidHandler, ValidState}
 
@@ -78,23 +79,18 @@ module _ (bytes : List ℕ) where
   called-handler true false s v = serve-handler (s .mssp .live .rw) (s .mssp .live .da) (acknowledged s) v
 
 -- ---- set-up, a call, an item, a run
-neither : (a b : Bool) → a || b ≡ false → (a ≡ false) × (b ≡ false)
-neither true b h = absurd (true≢false h)
-neither false b h = (refl, h)
-
 made-if :
-    (bad : Bool) (add n : ℕ) {s : State} → eqb n 0 || ltb 256 n ≡ bad
-    → cond bad (Refused NoWindow) (Ready (stateOf (setup add) (handlerOf n 0 false))) ≡ Ready s → ValidState s
-made-if true add n e g = let z : _≡_ {A = ℕ} 0 1 = cc in absurd (omega arith)
-made-if false add n {s} e g =
+    (good : Bool) (add n : ℕ) {s : State} → isWindowLength n ≡ good
+    → cond good (Ready (stateOf (setup add) (handlerOf n 0 false))) (NotMade NoWindow) ≡ Ready s → ValidState s
+made-if false add n e g = let z : _≡_ {A = ℕ} 0 1 = cc in absurd (omega arith)
+made-if true add n {s} e g =
     let is : stateOf (setup add) (handlerOf n 0 false) ≡ s = cc in
-    let out = neither (eqb n 0) (ltb 256 n) e in
-    let some : 0 < n = positive n (eqb-false n 0 (out .0)) in
-    rw (← is) (record { mssp = setup-valid add; handler = record { some = some; most = omega (arith, ltb-false 256 n (out .1)); inside = omega arith } })
+    let range = length-within n (subst T (sym e) tt) in
+    rw (← is) (record { mssp = setup-valid add; handler = record { some = range .0; most = range .1; inside = range .0 } })
 
 -- What set-up makes, whenever it makes one.
 pub setup-kept : (add n : ℕ) {s : State} → setupOf add n ≡ Ready s → ValidState s
-setup-kept add n g = made-if (eqb n 0 || ltb 256 n) add n refl g
+setup-kept add n g = made-if (isWindowLength n) add n refl g
 
 pub called-kept : (s : State) (bytes : List ℕ) → ValidState s → ValidState (called s bytes .state)
 called-kept s bytes v =
@@ -103,21 +99,22 @@ called-kept s bytes v =
       handler = called-handler bytes (s .mssp .live .sspif) (s .mssp .live .ckp) s (v .handler);
     }
 
-step-if :
-    (level call : Bool) (s : State) (bytes : List ℕ) (item : ℕ) → ValidState s
-    → ValidState (byteStepIf level call s bytes item .state)
-step-if true call s bytes item v =
-    record { mssp = sample-kept (s .mssp) (sclOf item) (sdaOf item) (v .mssp); handler = v .handler }
-step-if false true s bytes item v = called-kept s bytes v
-step-if false false s bytes item v = v
+-- An item of any kind, and items one after the other.
+pub item-kept : (w : Served) (item : Item) → ValidState (w .state) → ValidState (after w item .state)
+item-kept w (Sample scl sda) v = record { mssp = sample-kept (w .state .mssp) scl sda (v .mssp); handler = v .handler }
+item-kept w Call v = called-kept (w .state) (w .bytes) v
+item-kept w (Read number) v = record { mssp = access-read-kept (w .state .mssp) number (v .mssp); handler = v .handler }
+item-kept w (Write number value) v =
+    record { mssp = access-write-kept (w .state .mssp) number value (v .mssp); handler = v .handler }
+item-kept w NotAnItem v = v
 
-pub step-kept : (s : State) (bytes : List ℕ) (item : ℕ) → ValidState s → ValidState (byteStep s bytes item .state)
-step-kept s bytes item v = step-if (ltb item 4) (eqb item 4) s bytes item v
+pub items-kept : (w : Served) (items : List Item) → ValidState (w .state) → ValidState (afterAll w items .state)
+unfolding afterAll
+items-kept w [] v = v
+items-kept w (item ∷ items) v = items-kept (after w item) items (item-kept w item v)
 
 pub run-kept : (s : State) (bytes items : List ℕ) → ValidState s → ValidState (runOf s bytes items .state)
-unfolding afterAll
-run-kept s bytes [] v = v
-run-kept s bytes (x ∷ xs) v = run-kept (byteStep s bytes x .state) (byteStep s bytes x .bytes) xs (step-kept s bytes x v)
+run-kept s bytes items v = items-kept (served s bytes) (map itemAt items) v
 
 run-in-if :
     (fits bad : Bool) (s : State) (buffer : List ℕ) (start n : ℕ) (items : List ℕ) → ValidState s

@@ -12,7 +12,7 @@ use Rattle.writes.specs.Writes.{writeOf}
 use Rattle.firmware.specs.declared.State.{State}
 use Rattle.firmware.specs.Handler.{Served, served, stateOf, called}
 use Rattle.steps.specs.declared.Item.{Item}
-use Rattle.steps.specs.declared.Item.the-variants.{Sample, Call, Read, Write, Nothing}
+use Rattle.steps.specs.declared.Item.the-variants.{Sample, Call, Read, Write, NotAnItem}
 
 -- What a step decides: the verdict, and what it leaves.
 pub record Stepped : Type 0 where
@@ -33,7 +33,7 @@ stepOf s bytes (Sample scl sda) = stepped (Done 0) (stateOf (sampled (s .mssp) s
 stepOf s bytes Call = record { verdict = Done 0; left = called s bytes }
 stepOf s bytes (Read number) = accessed (readOf (s .mssp) number) s bytes
 stepOf s bytes (Write number value) = accessed (writeOf (s .mssp) number value) s bytes
-stepOf s bytes Nothing = stepped (Refused NoItem) s bytes
+stepOf s bytes NotAnItem = stepped (Refused NoItem) s bytes
 
 -- What an item leaves.
 abbrev pub after : Served → Item → Served

@@ -15,7 +15,7 @@ pub enum Item {
     // register number, value
     Write(u32, u8),
     // a number that stands for no item
-    Nothing,
+    NotAnItem,
 }
 
 // What a step answers, and the state after it.
@@ -59,7 +59,7 @@ pub fn step(s: State, window: &mut [u8], item: Item) -> Answered
                 state: State { mssp: next, ..s },
             }
         }
-        Item::Nothing => Answered {
+        Item::NotAnItem => Answered {
             verdict: Verdict::Refused(Refusal::NoItem),
             state: s,
         },

@@ -9,8 +9,8 @@ use lib.Dec.{eqb}
 use lib.ListN.{length, drop, getD, length-drop, drop-of-length-le}
 use lib.Seq.{drop-cons, drop-drop}
 use borrow.Author.Tests.{eqb-true}
-use Rattle.items.specs.First.{span, sames}
-use Rattle.items.specs.Theorems.{span-within}
+use Rattle.items.specs.First.{leading, sames}
+use Rattle.items.specs.Theorems.{leading-within}
 use Rattle.stretch.specs.Walk.{walked, steps}
 
 -- It takes no more items than there are.
@@ -51,7 +51,7 @@ module _ {P : Type 0} (stop : P → ℕ → Bool) (go : P → ℕ → P) (item :
   walked-if false x xs h rest = refl
 
   pub past-walked : (xs : List ℕ) → walked stop go p xs ≡ walked stop go p (drop (sames item xs) xs)
-  unfolding span
+  unfolding leading
   past-walked [] = refl
   past-walked (x ∷ xs) = walked-if (eqb x item) x xs refl (past-walked xs)
 
@@ -66,7 +66,7 @@ module _ {P : Type 0} (stop : P → ℕ → Bool) (go : P → ℕ → P) (item :
   steps-if false x xs h rest = omega arith
 
   pub past-steps : (xs : List ℕ) → steps stop go p xs ≡ sames item xs + steps stop go p (drop (sames item xs) xs)
-  unfolding span
+  unfolding leading
   past-steps [] = omega arith
   past-steps (x ∷ xs) = steps-if (eqb x item) x xs refl (past-steps xs)
 
@@ -137,7 +137,7 @@ module _ {P : Type 0} {stop : P → ℕ → Bool} {go : P → ℕ → P} {items 
       → r ≡ i + sames item (drop i items) → Walking stop go items p₀ r p
   walk-past {i} {r} {p} item w e g q =
       walk-by w (record { place = past-walked stop go item p e g (drop i items); count = past-steps stop go item p e g (drop i items) })
-      (span-within (λ (x : ℕ). eqb x item) (drop i items)) q
+      (leading-within (λ (x : ℕ). eqb x item) (drop i items)) q
 
   -- A step, and all that are equal to its item.
   pub walk-over :

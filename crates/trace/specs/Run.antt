@@ -9,7 +9,7 @@ use Rattle.sampling.specs.Rules.{sampled}
 use Rattle.firmware.specs.declared.State.{State}
 use Rattle.firmware.specs.Handler.{Served, served, stateOf}
 use Rattle.steps.specs.declared.Item.{Item}
-use Rattle.steps.specs.declared.Item.the-variants.{Sample, Call, Nothing}
+use Rattle.steps.specs.declared.Item.the-variants.{Sample, Call, NotAnItem}
 use Rattle.steps.specs.Step.{after, afterAll}
 
 -- The number of the first byte that is no item; the length where every byte is one.
@@ -28,7 +28,7 @@ levelTaken s level = cond (ltb 3 level) s (sampledBy s level)
 abbrev pub itemIf : Bool → Bool → ℕ → Item
 itemIf true call byte = Sample (sclOf byte) (sdaOf byte)
 itemIf false true byte = Call
-itemIf false false byte = Nothing
+itemIf false false byte = NotAnItem
 
 abbrev pub itemAt : ℕ → Item
 itemAt byte = itemIf (ltb byte 4) (eqb byte 4) byte

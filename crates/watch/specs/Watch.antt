@@ -4,7 +4,7 @@ use Prim.Native.Nat.{ℕ}
 use mathlib.Core.Bool.{Bool, false}
 use mathlib.Core.List.{List}
 use lib.ListN.{replicate}
-use Rattle.wire.specs.Wire.{onWire, edgeOf}
+use Rattle.wire.specs.Wire.{onWire}
 use Rattle.mssp.specs.Module.{setup}
 use Rattle.mssp.specs.Drivers.{sclPulled, sdaPulled}
 use Rattle.firmware.specs.declared.State.{State}
@@ -12,9 +12,9 @@ use Rattle.firmware.specs.Handler.{Served, served, stateOf, handlerOf}
 use Rattle.reader.specs.declared.Reader.{Reader}
 use Rattle.reader.specs.declared.Heard.{Heard}
 use Rattle.reader.specs.declared.Heard.the-variants.{Silence}
-use Rattle.reader.specs.Reader.{heardAt, readerAfter, readerAfresh}
+use Rattle.reader.specs.Reader.{readerAfter, heardOf, readerAfresh}
 use Rattle.steps.specs.declared.Item.{Item}
-use Rattle.steps.specs.declared.Item.the-variants.{Sample, Call, Read, Write, Nothing}
+use Rattle.steps.specs.declared.Item.the-variants.{Sample, Call, Read, Write, NotAnItem}
 use Rattle.steps.specs.Step.{after}
 use Rattle.watch.specs.declared.World.{World}
 use Rattle.watch.specs.declared.Listened.{Listened}
@@ -42,8 +42,7 @@ abbrev pub levelSeen : World → Bool → Bool → Listened
 levelSeen w scl sda =
     listenedOf
     (readerAfter (w .reader) (onWire (sclPulled (w .state .mssp .phase)) scl) (onWire (sdaPulled (w .state .mssp .phase)) sda))
-    (heardAt (w .reader .place)
-    (edgeOf (w .reader .line) (onWire (sclPulled (w .state .mssp .phase)) scl) (onWire (sdaPulled (w .state .mssp .phase)) sda)))
+    (heardOf (w .reader) (onWire (sclPulled (w .state .mssp .phase)) scl) (onWire (sdaPulled (w .state .mssp .phase)) sda))
 
 -- What the reader makes of an item: only a sample is on the wire, of any other it sees nothing.
 abbrev pub itemSeen : World → Item → Listened
@@ -51,7 +50,7 @@ itemSeen w (Sample scl sda) = levelSeen w scl sda
 itemSeen w Call = listenedOf (w .reader) Silence
 itemSeen w (Read number) = listenedOf (w .reader) Silence
 itemSeen w (Write number value) = listenedOf (w .reader) Silence
-itemSeen w Nothing = listenedOf (w .reader) Silence
+itemSeen w NotAnItem = listenedOf (w .reader) Silence
 
 -- State and memory are those after the item's step; beside them the reader and what it heard.
 abbrev pub sceneOf : Served → Listened → Scene

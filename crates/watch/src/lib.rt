@@ -57,7 +57,7 @@ fn see_item(world: World, item: Item) -> Listened
         Item::Call => unseen,
         Item::Read(_) => unseen,
         Item::Write(_, _) => unseen,
-        Item::Nothing => unseen,
+        Item::NotAnItem => unseen,
     }
 }
 

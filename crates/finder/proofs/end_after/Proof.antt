@@ -5,17 +5,17 @@ use borrow.Author.Needs.{needs}
 use native.Mathlib.Omega.{arith}
 use lib.ListN.{length}
 use Rattle.finder.specs.Messages.{endFrom, endAt}
-use Rattle.finder.specs.Reader.{readingBefore}
-use Rattle.finder.specs.Laws.{reading-went, end-test, end-first, end-none, end-here, end-more}
+use Rattle.finder.specs.Carried.{carriedBefore}
+use Rattle.finder.specs.Laws.{carried-went, end-test, end-first, end-none, end-here, end-more}
 use Rattle.finder.proofs.end_after.Statement.{statement}
 use Rattle.finder.proofs.end_after.Tie as tie
 
 abbrev Inv-loop : tie.InvT-loop
-Inv-loop levels item reading₀ end₀ reading end =
-    (end ≤ length levels) × (reading ≡ readingBefore levels end) × (endAt levels item ≡ endFrom levels end (length levels - end))
+Inv-loop levels item carried₀ end₀ carried end =
+    (end ≤ length levels) × (carried ≡ carriedBefore levels end) × (endAt levels item ≡ endFrom levels end (length levels - end))
 
 abbrev μ-loop : tie.MeasureT-loop
-μ-loop levels item reading₀ end₀ reading end = length levels - end
+μ-loop levels item carried₀ end₀ carried end = length levels - end
 
 loop-holds : tie.Need-loop-holds Inv-loop μ-loop
 loop-holds c = (omega arith, c .before .pre .1, end-first _ _)
@@ -32,7 +32,7 @@ loop-again c =
     let r = c .before .before .before in
     let l = r .before .before .before .loop in
     let t = end-test _ (l .end) (l .inv .1) (r .read-on .ensures) (c .before .before .is-stop .ensures) (c .before .is-start .ensures) in
-    let n = reading-went _ (l .end) (l .inv .1) (r .read-on .ensures) in
+    let n = carried-went _ (l .end) (l .inv .1) (r .read-on .ensures) in
     (omega arith, n, l .inv .2 ∙ end-more _ (l .end) (omega arith) (sym t ∙ c .if1 .left))
 
 returns-2 : tie.Need-returns-2 Inv-loop μ-loop

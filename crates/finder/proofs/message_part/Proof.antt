@@ -7,12 +7,12 @@ use Rattle.finder.proofs.message_part.Tie as tie
 sub-count : tie.Need-sub-count
 sub-count c =
     let p = c .before .before in
-    part-order _ _ (p .before .before .read-to .ensures) (p .place .given .1) (c .end-after .ensures) (search needs)
+    part-order _ _ (p .before .before .read-to .ensures) (p .lies .given .1) (c .end-after .ensures) (search needs)
 
 returns-2 : tie.Need-returns-2
 returns-2 c =
     let p = c .before .before in
-    part-inside _ _ (p .before .before .read-to .ensures) (p .place .given .1) (c .end-after .ensures)
+    part-inside _ _ (p .before .before .read-to .ensures) (p .lies .given .1) (c .end-after .ensures)
 
 pub message-part-spec : {M : Type 1} → statement M
 message-part-spec =

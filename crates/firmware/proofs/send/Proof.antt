@@ -9,4 +9,4 @@ send-spec =
     (tie.spec
     (λ c κs. search needs) (λ c κs. search needs) (λ c κs. search needs) (λ c κs. search needs) (λ c κs. search needs)
     (λ c κs. search needs)
-    (λ c. simp (c .release .ensures, c .before .load .ensures, c .before .before .step .ensures, c .before .before .before .pick-module .ensures, c .before .before .before .before .empty .ensures, c .before .before .before .before .before .peek .ensures)))
+    (λ c. simp (c .release .ensures, c .before .load .ensures, c .before .before .pointer-on .ensures, c .before .before .before .pick-module .ensures, c .before .before .before .before .empty .ensures, c .before .before .before .before .before .peek .ensures)))

@@ -1,19 +1,21 @@
 -- `firmware::set_up` meets its contract.
 use borrow.Author.Needs.{needs}
-use borrow.Author.Tests.{lt-ltb, le-ltb, ne-eqb}
+use mathlib.Core.Path.{sym, subst, _∙_}
+use native.Mathlib.Omega.{arith}
+use lib.Dec.{T}
+use Rattle.firmware.specs.Laws.{length-within}
 use Rattle.firmware.proofs.set_up.Statement.{statement}
 use Rattle.firmware.proofs.set_up.Tie as tie
 
--- Only a length of 1 to 256 makes a state.
-ready-in-range : tie.Need-returns-3
-ready-in-range c =
-    simp (ne-eqb _ _ (c .before .before .if1 .left), le-ltb _ _ (c .before .if2 .left), c .set-up .ensures)
+-- Only a length that a window can have makes a state.
+ready-in-range : tie.Need-returns
+ready-in-range c = simp (← c .before .before .is-window-length .ensures, c .before .if1 .taken, c .set-up .ensures)
 
 pub set-up-spec : {M : Type 1} → statement M
 set-up-spec =
     tie.close
     (tie.spec
-    (λ c. simp (c .if1 .taken))
-    (λ c. simp (ne-eqb _ _ (c .before .if1 .left), lt-ltb _ _ (c .if2 .taken)))
-    (λ c κs. search needs) (λ c. search needs)
-    ready-in-range)
+    (λ c κs. search needs) (λ c κs. search needs)
+    (λ c. omega (arith, length-within (c .before .before .before .args .n) (subst T (sym (c .before .if1 .taken) ∙ c .before .before .is-window-length .ensures) tt) .1))
+    ready-in-range
+    (λ c. simp (← c .before .is-window-length .ensures, c .if1 .left)))

@@ -10,4 +10,4 @@ take-spec =
     (λ c κs. search needs) (λ c κs. search needs) (λ c κs. search needs) (λ c κs. search needs) (λ c κs. search needs)
     (λ c. simp (c .aim .ensures, c .before .if1 .taken, c .before .before .release .ensures, c .before .before .before .empty .ensures))
     (λ c. search needs)
-    (λ c. simp (c .step .ensures, c .before .before .before .store .ensures, c .before .before .before .before .before .if1 .left, c .before .before .before .before .before .before .release .ensures, c .before .before .before .before .before .before .before .empty .ensures)))
+    (λ c. simp (c .pointer-on .ensures, c .before .before .before .store .ensures, c .before .before .before .before .before .if1 .left, c .before .before .before .before .before .before .release .ensures, c .before .before .before .before .before .before .before .empty .ensures)))

@@ -8,4 +8,4 @@ lay-out-spec =
     tie.close
     (tie.spec
     (λ c κs. search needs) (λ c κs. search needs)
-    (λ c. simp (c .step .ensures, c .before .peek .ensures)))
+    (λ c. simp (c .pointer-on .ensures, c .before .peek .ensures)))

@@ -10,4 +10,4 @@ take-byte-spec =
     (λ c κs. search needs) (λ c κs. search needs) (λ c κs. search needs)
     (λ c. simp (c .aim .ensures, c .before .if1 .taken))
     (λ c. search needs)
-    (λ c. simp (c .step .ensures, c .before .before .before .store .ensures, c .before .before .before .before .before .if1 .left)))
+    (λ c. simp (c .pointer-on .ensures, c .before .before .before .store .ensures, c .before .before .before .before .before .if1 .left)))

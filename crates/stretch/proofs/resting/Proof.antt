@@ -29,7 +29,7 @@ resting-spec =
     (λ c.
     walk-stops restedOf (c .before .before .before .before .before .loop .inv) (c .before .before .before .before .loop-test .taken)
     (by-level _ (c .before .before .if1 .left) (c .before .is-end .ensures) (c .if2 .taken)))
-    (λ c κs. search needs) (λ c. omega arith) (λ c κs. omega arith)
+    (λ c κs. search needs) (λ c. omega arith) (λ c κs. search needs)
     (λ c. omega (arith, c .first-other .ensures))
     (λ c.
     walk-over (c .before .before .before .before .before .before .before .loop .inv) (c .before .before .before .before .before .before .loop-test .taken)

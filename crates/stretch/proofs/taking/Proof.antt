@@ -33,7 +33,7 @@ taking-spec =
     (λ c. walk-stops takenOf (c .before .before .before .loop .inv) (c .before .before .loop-test .taken) (no-level _ _ (c .if1 .taken)))
     (λ c κs. search needs) (λ c κs. search needs)
     byte-end-stops
-    (λ c κs. search needs) (λ c κs. search needs) (λ c. omega arith) (λ c κs. omega arith)
+    (λ c κs. search needs) (λ c κs. search needs) (λ c. omega arith) (λ c κs. search needs)
     (λ c. omega (arith, c .first-other .ensures))
     (λ c.
     walk-over (c .before .before .before .before .before .before .before .before .before .loop .inv) (c .before .before .before .before .before .before .before .before .loop-test .taken)
