@@ -1,4 +1,4 @@
--- What a read gives byteAfter a write, for every state and all 256 values, and what each write leaves alone
+-- What a read gives after a write, for every state and all 256 values, and what each write leaves alone
 -- (01, "Register numbers").
 use Prim.Native.Nat.{ℕ, _<_}
 use mathlib.Core.Path.{_≡_, refl, sym, _∙_}
