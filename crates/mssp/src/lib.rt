@@ -1,7 +1,7 @@
 // The MSSP: its registers as bits, its phase, and what it pulls.
 ghost use mathlib.Core.Path.{_≡_};
 ghost use mathlib.Core.Bool.{cond};
-ghost use Rattle.mssp.specs.Module.{fresh, setup};
+ghost use Rattle.mssp.specs.Module.{modelled, interrupting, fresh, setup};
 ghost use Rattle.mssp.specs.Drivers.{sclPulled, sdaPulled, isSending};
 use wire::Bits;
 use wire::Line;
@@ -85,6 +85,20 @@ pub fn pick_module(first: bool, m: Module, n: Module) -> Module
     ensures { λ r. ⌜ r ≡ cond first m n ⌝ }
 {
     if first { m } else { n }
+}
+
+// SSPM is 0110 or 1110, one of the modes that are modelled.
+pub fn is_modelled(sspm3: bool, sspm2: bool, sspm1: bool, sspm0: bool) -> bool
+    ensures { λ r. ⌜ r ≡ modelled sspm3 sspm2 sspm1 sspm0 ⌝ }
+{
+    sspm2 & sspm1 & !sspm0
+}
+
+// The mode interrupts at Start and Stop.
+pub fn interrupts(c: Config) -> bool
+    ensures { λ r. ⌜ r ≡ interrupting c ⌝ }
+{
+    c.sspm3 & is_modelled(c.sspm3, c.sspm2, c.sspm1, c.sspm0)
 }
 
 // The clock is held.

@@ -95,7 +95,7 @@ pub fn module_valid(m: Module) -> bool
 {
     let config = m.config;
     let sspen = config.sspen;
-    let modelled = config.sspm2 & config.sspm1 & !config.sspm0;
+    let modelled = mssp::is_modelled(config.sspm3, config.sspm2, config.sspm1, config.sspm0);
     let live = m.live;
     let s = live.s;
     let p = live.p;
