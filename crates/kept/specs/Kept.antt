@@ -2,7 +2,7 @@
 use Prim.Native.Nat.{ℕ}
 use mathlib.Core.Path.{_≡_, refl, sym}
 use mathlib.Core.Bool.{Bool, true, false, true≢false, cond, _||_, _&&_, not}
-use lib.Dec.{T}
+use lib.Dec.{T, eqb→eq}
 use Rattle.truth.specs.Tests.{and-both, and-left, and-right, or-left, or-right}
 use Rattle.wire.specs.Byte.{bit}
 use Rattle.wire.specs.Wire.{edgeOf, onWire}
@@ -15,7 +15,8 @@ use Rattle.mssp.specs.declared.Module.{Module}
 use Rattle.mssp.specs.Module.{fresh, setup, modelled}
 use Rattle.mssp.specs.Drivers.{sclPulled, sdaPulled}
 use Rattle.effects.specs.Effects.{emptied, releasedPhase, released}
-use Rattle.mssp.specs.Valid.{Valid, bitsFit, noBits, partsFit, isQuiet, addressBegins, eightBits, modeFits, holdFits}
+use Rattle.mssp.specs.Phases.{phaseNumber, isQuiet, eightBits}
+use Rattle.mssp.specs.Valid.{Valid, bitsFit, noBits, partsFit, addressBegins, modeFits, holdFits}
 use Rattle.sampling.specs.Rules.{seenIf, sampled}
 use Rattle.registers.specs.declared.Register.{Register}
 use Rattle.registers.specs.declared.Register.the-variants.{Buf, Stat, Con1, Con2, Con3, Add, Msk, Flag, Nowhere}
@@ -33,14 +34,7 @@ setup-valid add = record { parts = tt; condition = tt; mode = tt; off = tt; mark
 -- ---- samples
 -- A disabled module is quiet and unmarked, and stays so.
 quiet-short : (ph : Phase) → T (isQuiet ph) → T (not (eightBits ph))
-quiet-short Quiet h = tt
-quiet-short (Address bits) h = absurd h
-quiet-short (Data bits held) h = absurd h
-quiet-short (HeldBefore refused) h = tt
-quiet-short (Slot pulling) h = tt
-quiet-short HeldForSending h = tt
-quiet-short (Sending byte place) h = tt
-quiet-short MasterAcknowledge h = tt
+quiet-short ph h = rw (eqb→eq (phaseNumber ph) 0 h) tt
 
 unmarked-stays : (mark scl : Bool) → T (not mark) → T (not (scl && (mark || false)))
 unmarked-stays true scl h = absurd h
@@ -121,7 +115,7 @@ accepted-mode false fits h = tt
 released-parts : (ackdt : Bool) (buf : ℕ) (ph : Phase) → T (partsFit ph) → T (partsFit (releasedPhase ackdt buf ph))
 released-parts ackdt buf Quiet h = tt
 released-parts ackdt buf (Address bits) h = h
-released-parts ackdt buf (Data bits held) h = and-both (bitsFit bits) true (and-left (bitsFit bits) (not held || noBits bits) h) tt
+released-parts ackdt buf (Data bits held) h = and-right (not held || noBits bits) (bitsFit bits) h
 released-parts ackdt buf (HeldBefore refused) h = tt
 released-parts ackdt buf (Slot pulling) h = tt
 released-parts ackdt buf HeldForSending h = tt

@@ -24,8 +24,9 @@ use Rattle.sampling.specs.Rules.{_at_}
 use Rattle.stretch.specs.declared.Seen.{Seen}
 use Rattle.stretch.specs.declared.Stretch.{Stretch}
 use Rattle.stretch.specs.Walk.{walked, steps}
-use Rattle.mssp.specs.Drivers.{sclPulled, sdaPulled, isSending}
-use Rattle.stretch.specs.Stretch.{takesBits, bitsOf, withBits, riseRule, fallRule, stretchBy, takingStops, takingGoes, sendingStops, sendingGoes, restingStops, restingGoes, phaseStretch, stretchFrom, stretchOf}
+use Rattle.mssp.specs.Phases.{bitsOf, isSending}
+use Rattle.mssp.specs.Drivers.{sclPulled, sdaPulled}
+use Rattle.stretch.specs.Stretch.{takesBits, withBits, riseRule, fallRule, stretchBy, takingStops, takingGoes, sendingStops, sendingGoes, restingStops, restingGoes, phaseStretch, stretchFrom, stretchOf}
 use Rattle.stretch.specs.Theorems.{stretch-within}
 use Rattle.stretch.specs.Sampled.{moduleSeen, Sampled, bits-go, sending-goes, rest-goes}
 use Rattle.firmware.specs.declared.Handler.{Handler}
