@@ -122,28 +122,18 @@ released-parts ackdt buf HeldForSending h = tt
 released-parts ackdt buf (Sending byte place) h = h
 released-parts ackdt buf MasterAcknowledge h = tt
 
-released-free : (ackdt : Bool) (buf : ℕ) (ph : Phase) → T (not (sclPulled (releasedPhase ackdt buf ph) && true))
-released-free ackdt buf Quiet = tt
-released-free ackdt buf (Address bits) = tt
-released-free ackdt buf (Data bits held) = tt
-released-free ackdt buf (HeldBefore refused) = tt
-released-free ackdt buf (Slot pulling) = tt
-released-free ackdt buf HeldForSending = tt
-released-free ackdt buf (Sending byte place) = tt
-released-free ackdt buf MasterAcknowledge = tt
-
 released-same :
     (ackdt : Bool) (buf : ℕ) (ph : Phase)
     → (isQuiet (releasedPhase ackdt buf ph) ≡ isQuiet ph) × (addressBegins (releasedPhase ackdt buf ph) ≡ addressBegins ph)
-    × (eightBits (releasedPhase ackdt buf ph) ≡ eightBits ph)
-released-same ackdt buf Quiet = (refl, refl, refl)
-released-same ackdt buf (Address bits) = (refl, refl, refl)
-released-same ackdt buf (Data bits held) = (refl, refl, refl)
-released-same ackdt buf (HeldBefore refused) = (refl, refl, refl)
-released-same ackdt buf (Slot pulling) = (refl, refl, refl)
-released-same ackdt buf HeldForSending = (refl, refl, refl)
-released-same ackdt buf (Sending byte place) = (refl, refl, refl)
-released-same ackdt buf MasterAcknowledge = (refl, refl, refl)
+    × (eightBits (releasedPhase ackdt buf ph) ≡ eightBits ph) × T (not (sclPulled (releasedPhase ackdt buf ph) && true))
+released-same ackdt buf Quiet = (refl, refl, refl, tt)
+released-same ackdt buf (Address bits) = (refl, refl, refl, tt)
+released-same ackdt buf (Data bits held) = (refl, refl, refl, tt)
+released-same ackdt buf (HeldBefore refused) = (refl, refl, refl, tt)
+released-same ackdt buf (Slot pulling) = (refl, refl, refl, tt)
+released-same ackdt buf HeldForSending = (refl, refl, refl, tt)
+released-same ackdt buf (Sending byte place) = (refl, refl, refl, tt)
+released-same ackdt buf MasterAcknowledge = (refl, refl, refl, tt)
 
 pub released-kept : (m : Module) → Valid m → Valid (released m)
 released-kept m v =
@@ -155,7 +145,7 @@ released-kept m v =
       off = rw (r .0) (v .off);
       mark = rw (r .1) (v .mark);
       eight = rw (r .2) (v .eight);
-      hold = released-free (m .config .ackdt) (m .live .buf) (m .phase);
+      hold = r .3;
     }
 
 -- Where SSPEN does not go from 1 to 0, an off module was off, quiet and unmarked before.
@@ -193,7 +183,7 @@ con1-kept false true v m e k mode h =
       off = rw (r .0) (off-stays (m .config .sspen) (bit 5 v) (isQuiet (m .phase) && not (m .line .mark)) e (h .off));
       mark = rw (r .1) (h .mark);
       eight = rw (r .2) (h .eight);
-      hold = released-free (m .config .ackdt) (m .live .buf) (m .phase);
+      hold = r .3;
     }
 con1-kept false false v m e k mode h =
     record {
