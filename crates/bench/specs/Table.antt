@@ -5,12 +5,10 @@ use mathlib.Core.Bool.{Bool, true, false, _&&_, not}
 use mathlib.Core.List.{List, [], _∷_, _++_, map}
 use lib.Dec.{eqb}
 use lib.ListN.{length, getD}
-use Rattle.mssp.specs.declared.Phase.{Phase}
-use Rattle.mssp.specs.declared.Phase.the-variants.{Quiet, Address, Data, HeldBefore, Slot, HeldForSending, Sending, MasterAcknowledge}
 use Rattle.mssp.specs.declared.Live.{Live}
 use Rattle.mssp.specs.Module.{setup}
+use Rattle.mssp.specs.Phases.{bitsOf, isQuiet, isSending}
 use Rattle.mssp.specs.Drivers.{sdaPulled}
-use Rattle.mssp.specs.Valid.{isQuiet}
 use Rattle.firmware.specs.Handler.{Served, served, stateOf, handlerOf}
 use Rattle.steps.specs.declared.Item.{Item}
 use Rattle.steps.specs.declared.Item.the-variants.{Call, Read, Write}
@@ -90,18 +88,8 @@ pointer p w = eqb (w .state .handler .pointer) p
 abbrev pub stored : ℕ → ℕ → Served → Bool
 stored place v w = eqb (getD (w .bytes) place 0) v
 
-abbrev pub outgoing : ℕ → Phase → Bool
-outgoing v Quiet = false
-outgoing v (Address bits) = false
-outgoing v (Data bits held) = false
-outgoing v (HeldBefore refused) = false
-outgoing v (Slot pulling) = false
-outgoing v HeldForSending = false
-outgoing v (Sending byte place) = eqb byte v
-outgoing v MasterAcknowledge = false
-
 abbrev pub sends : ℕ → Served → Bool
-sends v w = outgoing v (w .state .mssp .phase)
+sends v w = isSending (w .state .mssp .phase) && eqb (bitsOf (w .state .mssp .phase) .value) v
 
 -- A test that holds of every byte, 0 to 255.
 abbrev pub below : ℕ → (ℕ → Bool) → Bool

@@ -6,22 +6,12 @@ use Rattle.mssp.specs.declared.Phase.{Phase}
 use Rattle.mssp.specs.declared.Phase.the-variants.{Quiet, Address, Data, HeldBefore, Slot, HeldForSending, Sending, MasterAcknowledge}
 use Rattle.mssp.specs.declared.Module.{Module}
 use Rattle.wire.specs.declared.Line.{Line}
+use Rattle.mssp.specs.Phases.{isHeldForSending}
 use Rattle.mssp.specs.Module.{moduleOf, setS, setP, setDA, setRW, setBF, setACKTIM, setBUF, setCKP, setWCOL}
 
 -- A read of BUF clears BF.
 abbrev pub emptied : Module → Module
 emptied m = moduleOf (m .config) (setBF false (m .live)) (m .phase) (m .line)
-
--- The one phase in which a byte that is written goes out.
-abbrev pub heldForSending : Phase → Bool
-heldForSending Quiet = false
-heldForSending (Address bits) = false
-heldForSending (Data bits held) = false
-heldForSending (HeldBefore refused) = false
-heldForSending (Slot pulling) = false
-heldForSending HeldForSending = true
-heldForSending (Sending byte place) = false
-heldForSending MasterAcknowledge = false
 
 -- A write to BUF takes effect, with BF, while the clock is held for sending; else it sets WCOL and no more.
 abbrev pub loadedIf : Bool → ℕ → Module → Module
@@ -31,7 +21,7 @@ loadedIf held byte m =
     (m .phase) (m .line)
 
 abbrev pub loaded : ℕ → Module → Module
-loaded byte m = loadedIf (heldForSending (m .phase)) byte m
+loaded byte m = loadedIf (isHeldForSending (m .phase)) byte m
 
 -- CKP = 1 ends a hold: before data the bits come, before an acknowledge the slot follows, pulling unless refused or
 -- declined by ACKDT; before sending the byte in BUF goes out.

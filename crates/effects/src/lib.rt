@@ -1,23 +1,8 @@
 // What reading BUF, writing BUF, setting CKP and disabling do to the module.
 ghost use mathlib.Core.Path.{_≡_};
-ghost use Rattle.effects.specs.Effects.{heldForSending, emptied, loaded, released, releasedPhase, disabled};
+ghost use Rattle.effects.specs.Effects.{emptied, loaded, released, releasedPhase, disabled};
 use mssp::Module;
 use mssp::Phase;
-
-fn is_held_for_sending(phase: Phase) -> bool
-    ensures { λ r. ⌜ r ≡ heldForSending phase ⌝ }
-{
-    match phase {
-        Phase::Quiet => false,
-        Phase::Address(_) => false,
-        Phase::Data(_, _) => false,
-        Phase::HeldBefore(_) => false,
-        Phase::Slot(_) => false,
-        Phase::HeldForSending => true,
-        Phase::Sending(_, _) => false,
-        Phase::MasterAcknowledge => false,
-    }
-}
 
 // BUF is read.
 pub fn empty(m: Module) -> Module
@@ -33,7 +18,7 @@ pub fn load(m: Module, byte: u8) -> Module
     ensures { λ r. ⌜ r ≡ loaded byte m ⌝ }
 {
     let phase = m.phase;
-    let held = is_held_for_sending(phase);
+    let held = mssp::phase_number(phase) == mssp::HELD_FOR_SENDING;
     let mut config = m.config;
     config.wcol = !held | config.wcol;
     let mut live = m.live;

@@ -23,7 +23,8 @@ use Rattle.mssp.specs.declared.Live.{Live}
 use Rattle.mssp.specs.declared.Phase.{Phase}
 use Rattle.mssp.specs.declared.Phase.the-variants.{Quiet, Address, Data, HeldBefore, Slot, HeldForSending, Sending, MasterAcknowledge}
 use Rattle.mssp.specs.Module.{setDA, setRW}
-use Rattle.mssp.specs.Valid.{bitsFit, partsFit, addressBegins, eightBits, oneCondition, markFits, eightFit, holdFits}
+use Rattle.mssp.specs.Phases.{eightBits}
+use Rattle.mssp.specs.Valid.{bitsFit, partsFit, addressBegins, oneCondition, markFits, eightFit, holdFits}
 use Rattle.sampling.specs.declared.Moved.{Moved}
 use Rattle.sampling.specs.Rules.{_at_, intake, addressIf, addressFallIf, dataFallIf, bitSentIf, fallen, risen, edgeStep}
 
@@ -145,8 +146,7 @@ pub rise-fits :
 rise-fits l Quiet sda h k s = record { parts = tt; hold = tt; start = refl; stop = refl }
 rise-fits l (Address bits) sda h k s = record { parts = bits-pushed bits sda h s; hold = tt; start = refl; stop = refl }
 rise-fits l (Data bits true) sda h k s = record { parts = h; hold = k; start = refl; stop = refl }
-rise-fits l (Data bits false) sda h k s =
-    record { parts = and-both (bitsFit (pushed bits sda)) true (bits-pushed bits sda (and-left (bitsFit bits) true h) s) tt; hold = tt; start = refl; stop = refl }
+rise-fits l (Data bits false) sda h k s = record { parts = bits-pushed bits sda h s; hold = tt; start = refl; stop = refl }
 rise-fits l (HeldBefore refused) sda h k s = record { parts = tt; hold = k; start = refl; stop = refl }
 rise-fits l (Slot pulling) sda h k s = record { parts = tt; hold = tt; start = refl; stop = refl }
 rise-fits l HeldForSending sda h k s = record { parts = tt; hold = k; start = refl; stop = refl }

@@ -2,7 +2,7 @@
 use Prim.Native.Nat.{ℕ}
 use mathlib.Core.Path.{_≡_, refl, sym}
 use mathlib.Core.Bool.{Bool, true, false, true≢false, cond, _||_, _&&_, not}
-use lib.Dec.{T}
+use lib.Dec.{T, eqb→eq}
 use Rattle.truth.specs.Tests.{and-both, and-left, and-right, or-left, or-right}
 use Rattle.wire.specs.Byte.{bit}
 use Rattle.wire.specs.Wire.{edgeOf, onWire}
@@ -15,7 +15,8 @@ use Rattle.mssp.specs.declared.Module.{Module}
 use Rattle.mssp.specs.Module.{fresh, setup, modelled}
 use Rattle.mssp.specs.Drivers.{sclPulled, sdaPulled}
 use Rattle.effects.specs.Effects.{emptied, releasedPhase, released}
-use Rattle.mssp.specs.Valid.{Valid, bitsFit, noBits, partsFit, isQuiet, addressBegins, eightBits, modeFits, holdFits}
+use Rattle.mssp.specs.Phases.{phaseNumber, isQuiet, eightBits}
+use Rattle.mssp.specs.Valid.{Valid, bitsFit, noBits, partsFit, addressBegins, modeFits, holdFits}
 use Rattle.sampling.specs.Rules.{seenIf, sampled}
 use Rattle.registers.specs.declared.Register.{Register}
 use Rattle.registers.specs.declared.Register.the-variants.{Buf, Stat, Con1, Con2, Con3, Add, Msk, Flag, Nowhere}
@@ -33,14 +34,7 @@ setup-valid add = record { parts = tt; condition = tt; mode = tt; off = tt; mark
 -- ---- samples
 -- A disabled module is quiet and unmarked, and stays so.
 quiet-short : (ph : Phase) → T (isQuiet ph) → T (not (eightBits ph))
-quiet-short Quiet h = tt
-quiet-short (Address bits) h = absurd h
-quiet-short (Data bits held) h = absurd h
-quiet-short (HeldBefore refused) h = tt
-quiet-short (Slot pulling) h = tt
-quiet-short HeldForSending h = tt
-quiet-short (Sending byte place) h = tt
-quiet-short MasterAcknowledge h = tt
+quiet-short ph h = rw (eqb→eq (phaseNumber ph) 0 h) tt
 
 unmarked-stays : (mark scl : Bool) → T (not mark) → T (not (scl && (mark || false)))
 unmarked-stays true scl h = absurd h
@@ -121,35 +115,25 @@ accepted-mode false fits h = tt
 released-parts : (ackdt : Bool) (buf : ℕ) (ph : Phase) → T (partsFit ph) → T (partsFit (releasedPhase ackdt buf ph))
 released-parts ackdt buf Quiet h = tt
 released-parts ackdt buf (Address bits) h = h
-released-parts ackdt buf (Data bits held) h = and-both (bitsFit bits) true (and-left (bitsFit bits) (not held || noBits bits) h) tt
+released-parts ackdt buf (Data bits held) h = and-right (not held || noBits bits) (bitsFit bits) h
 released-parts ackdt buf (HeldBefore refused) h = tt
 released-parts ackdt buf (Slot pulling) h = tt
 released-parts ackdt buf HeldForSending h = tt
 released-parts ackdt buf (Sending byte place) h = h
 released-parts ackdt buf MasterAcknowledge h = tt
 
-released-free : (ackdt : Bool) (buf : ℕ) (ph : Phase) → T (not (sclPulled (releasedPhase ackdt buf ph) && true))
-released-free ackdt buf Quiet = tt
-released-free ackdt buf (Address bits) = tt
-released-free ackdt buf (Data bits held) = tt
-released-free ackdt buf (HeldBefore refused) = tt
-released-free ackdt buf (Slot pulling) = tt
-released-free ackdt buf HeldForSending = tt
-released-free ackdt buf (Sending byte place) = tt
-released-free ackdt buf MasterAcknowledge = tt
-
 released-same :
     (ackdt : Bool) (buf : ℕ) (ph : Phase)
     → (isQuiet (releasedPhase ackdt buf ph) ≡ isQuiet ph) × (addressBegins (releasedPhase ackdt buf ph) ≡ addressBegins ph)
-    × (eightBits (releasedPhase ackdt buf ph) ≡ eightBits ph)
-released-same ackdt buf Quiet = (refl, refl, refl)
-released-same ackdt buf (Address bits) = (refl, refl, refl)
-released-same ackdt buf (Data bits held) = (refl, refl, refl)
-released-same ackdt buf (HeldBefore refused) = (refl, refl, refl)
-released-same ackdt buf (Slot pulling) = (refl, refl, refl)
-released-same ackdt buf HeldForSending = (refl, refl, refl)
-released-same ackdt buf (Sending byte place) = (refl, refl, refl)
-released-same ackdt buf MasterAcknowledge = (refl, refl, refl)
+    × (eightBits (releasedPhase ackdt buf ph) ≡ eightBits ph) × T (not (sclPulled (releasedPhase ackdt buf ph) && true))
+released-same ackdt buf Quiet = (refl, refl, refl, tt)
+released-same ackdt buf (Address bits) = (refl, refl, refl, tt)
+released-same ackdt buf (Data bits held) = (refl, refl, refl, tt)
+released-same ackdt buf (HeldBefore refused) = (refl, refl, refl, tt)
+released-same ackdt buf (Slot pulling) = (refl, refl, refl, tt)
+released-same ackdt buf HeldForSending = (refl, refl, refl, tt)
+released-same ackdt buf (Sending byte place) = (refl, refl, refl, tt)
+released-same ackdt buf MasterAcknowledge = (refl, refl, refl, tt)
 
 pub released-kept : (m : Module) → Valid m → Valid (released m)
 released-kept m v =
@@ -161,7 +145,7 @@ released-kept m v =
       off = rw (r .0) (v .off);
       mark = rw (r .1) (v .mark);
       eight = rw (r .2) (v .eight);
-      hold = released-free (m .config .ackdt) (m .live .buf) (m .phase);
+      hold = r .3;
     }
 
 -- Where SSPEN does not go from 1 to 0, an off module was off, quiet and unmarked before.
@@ -199,7 +183,7 @@ con1-kept false true v m e k mode h =
       off = rw (r .0) (off-stays (m .config .sspen) (bit 5 v) (isQuiet (m .phase) && not (m .line .mark)) e (h .off));
       mark = rw (r .1) (h .mark);
       eight = rw (r .2) (h .eight);
-      hold = released-free (m .config .ackdt) (m .live .buf) (m .phase);
+      hold = r .3;
     }
 con1-kept false false v m e k mode h =
     record {

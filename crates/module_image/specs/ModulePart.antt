@@ -10,10 +10,11 @@ use Rattle.wire.specs.Byte.{bit}
 use Rattle.mssp.specs.declared.Config.{Config}
 use Rattle.mssp.specs.declared.Live.{Live}
 use Rattle.mssp.specs.declared.Module.{Module}
+use Rattle.mssp.specs.Phases.{phaseNumber, bitsOf, phaseMark}
 use Rattle.mssp.specs.Module.{configOf, liveOf, moduleOf}
 use Rattle.registers.specs.declared.Register.the-variants.{Buf, Stat, Con1, Con2, Con3, Add, Msk, Flag}
 use Rattle.registers.specs.Values.{valueOf}
-use Rattle.phase_image.specs.PhasePart.{phaseNumber, phaseCount, phaseByte, phaseMark, phaseFrom, wireByte, wireFrom}
+use Rattle.phase_image.specs.PhasePart.{phaseFrom, wireByte, wireFrom}
 
 abbrev pub moduleLength : ℕ
 moduleLength = 16
@@ -32,7 +33,7 @@ modulePart m =
     ∷ valueOf (m .config) (m .live) Add
     ∷ valueOf (m .config) (m .live) Msk
     ∷ valueOf (m .config) (m .live) Flag
-    ∷ phaseNumber (m .phase) ∷ phaseCount (m .phase) ∷ phaseByte (m .phase) ∷ boolByte (phaseMark (m .phase))
+    ∷ phaseNumber (m .phase) ∷ bitsOf (m .phase) .count ∷ bitsOf (m .phase) .value ∷ boolByte (phaseMark (m .phase))
     ∷ wireByte (m .line .remembered) ∷ boolByte (m .line .mark) ∷ 0 ∷ 0 ∷ []
 
 -- ---- the way back: which bit of which register is which

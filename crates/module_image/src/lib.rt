@@ -15,6 +15,7 @@ pub fn module_part(m: Module) -> [u8; MODULE_LENGTH]
     let c = m.config;
     let l = m.live;
     let phase = m.phase;
+    let bits = mssp::bits_of(phase);
     let line = m.line;
     let remembered = line.remembered;
     [
@@ -26,10 +27,10 @@ pub fn module_part(m: Module) -> [u8; MODULE_LENGTH]
         c.add,
         c.msk,
         l.sspif as u8,
-        phase_image::phase_number(phase),
-        phase_image::phase_count(phase),
-        phase_image::phase_byte(phase),
-        phase_image::phase_mark(phase) as u8,
+        mssp::phase_number(phase),
+        bits.count,
+        bits.value,
+        mssp::phase_mark(phase) as u8,
         phase_image::wire_byte(remembered),
         line.mark as u8,
         0,

@@ -1,4 +1,5 @@
 pub mod Module
+pub mod Phases
 pub mod Drivers
 pub mod Valid
 pub mod Laws

@@ -1,18 +1,17 @@
 -- Which states there are (01, "Calls, refusals and their order", "A state is any setting of .."), clause by clause.
 -- Bits that are always 0 (UA, BOEN, CON2 4..1, flag 7..1) have no place in the state at all.
 use Prim.Native.Nat.{_^_}
-use mathlib.Core.Bool.{Bool, true, false, _&&_, _||_, not}
+use mathlib.Core.Bool.{Bool, cond, _&&_, _||_, not}
 use lib.Dec.{T, eqb, leb, ltb}
 use Rattle.wire.specs.declared.Bits.{Bits}
 use Rattle.wire.specs.declared.Remembered.{Remembered}
-use Rattle.wire.specs.Byte.{whole}
 use Rattle.wire.specs.Wire.{sclHigh}
 use Rattle.mssp.specs.declared.Config.{Config}
 use Rattle.mssp.specs.declared.Live.{Live}
 use Rattle.mssp.specs.declared.Phase.{Phase}
-use Rattle.mssp.specs.declared.Phase.the-variants.{Quiet, Address, Data, HeldBefore, Slot, HeldForSending, Sending, MasterAcknowledge}
 use Rattle.mssp.specs.declared.Module.{Module}
 use Rattle.mssp.specs.Module.{modelled}
+use Rattle.mssp.specs.Phases.{bitsOf, isQuiet, isAddress, isSending, eightBits}
 use Rattle.mssp.specs.Drivers.{sclPulled}
 
 -- Bits so far: 0 to 8 of them, and a number that they can make.
@@ -22,48 +21,15 @@ bitsFit b = leb (b .count) 8 && ltb (b .value) (2 ^ (b .count))
 abbrev pub noBits : Bits → Bool
 noBits b = eqb (b .count) 0
 
--- A phase with its parts: held data only with no bits, a place of 0 to 7.
+-- A phase with its parts: of a byte that is sent a place of 0 to 7; else bits that fit, and none while the clock is held.
 abbrev pub partsFit : Phase → Bool
-partsFit Quiet = true
-partsFit (Address bits) = bitsFit bits
-partsFit (Data bits held) = bitsFit bits && (not held || noBits bits)
-partsFit (HeldBefore refused) = true
-partsFit (Slot pulling) = true
-partsFit HeldForSending = true
-partsFit (Sending byte place) = ltb place 8
-partsFit MasterAcknowledge = true
-
-abbrev pub isQuiet : Phase → Bool
-isQuiet Quiet = true
-isQuiet (Address bits) = false
-isQuiet (Data bits held) = false
-isQuiet (HeldBefore refused) = false
-isQuiet (Slot pulling) = false
-isQuiet HeldForSending = false
-isQuiet (Sending byte place) = false
-isQuiet MasterAcknowledge = false
+partsFit ph =
+    cond (isSending ph) (ltb (bitsOf ph .count) 8)
+    ((not (sclPulled ph) || noBits (bitsOf ph)) && bitsFit (bitsOf ph))
 
 -- An address of which no bit has come.
 abbrev pub addressBegins : Phase → Bool
-addressBegins Quiet = false
-addressBegins (Address bits) = noBits bits
-addressBegins (Data bits held) = false
-addressBegins (HeldBefore refused) = false
-addressBegins (Slot pulling) = false
-addressBegins HeldForSending = false
-addressBegins (Sending byte place) = false
-addressBegins MasterAcknowledge = false
-
--- Eight bits have come, and not yet the fall after them.
-abbrev pub eightBits : Phase → Bool
-eightBits Quiet = false
-eightBits (Address bits) = whole bits
-eightBits (Data bits held) = whole bits
-eightBits (HeldBefore refused) = false
-eightBits (Slot pulling) = false
-eightBits HeldForSending = false
-eightBits (Sending byte place) = false
-eightBits MasterAcknowledge = false
+addressBegins ph = isAddress ph && noBits (bitsOf ph)
 
 -- S and P are not both 1.
 abbrev pub oneCondition : Live → Bool

@@ -1,8 +1,9 @@
 // The MSSP: its registers as bits, its phase, and what it pulls.
 ghost use mathlib.Core.Path.{_≡_};
 ghost use mathlib.Core.Bool.{cond};
-ghost use Rattle.mssp.specs.Module.{fresh, setup};
-ghost use Rattle.mssp.specs.Drivers.{sclPulled, sdaPulled, isSending};
+ghost use Rattle.mssp.specs.Module.{modelled, interrupting, fresh, setup};
+ghost use Rattle.mssp.specs.Phases.{phaseNumber, bitsOf, phaseMark, isSending, hasBits, eightBits};
+ghost use Rattle.mssp.specs.Drivers.{sclPulled, sdaPulled};
 use wire::Bits;
 use wire::Line;
 use wire::Remembered;
@@ -62,6 +63,23 @@ pub enum Phase {
     MasterAcknowledge,
 }
 
+// The phases by number.
+pub const QUIET: u8 = 0;
+
+pub const ADDRESS: u8 = 1;
+
+pub const DATA: u8 = 2;
+
+pub const HELD_BEFORE: u8 = 3;
+
+pub const SLOT: u8 = 4;
+
+pub const HELD_FOR_SENDING: u8 = 5;
+
+pub const SENDING: u8 = 6;
+
+pub const MASTER_ACKNOWLEDGE: u8 = 7;
+
 pub struct Module {
     pub config: Config,
     pub live: Live,
@@ -87,6 +105,107 @@ pub fn pick_module(first: bool, m: Module, n: Module) -> Module
     if first { m } else { n }
 }
 
+// SSPM is 0110 or 1110, one of the modes that are modelled.
+pub fn is_modelled(sspm3: bool, sspm2: bool, sspm1: bool, sspm0: bool) -> bool
+    ensures { λ r. ⌜ r ≡ modelled sspm3 sspm2 sspm1 sspm0 ⌝ }
+{
+    sspm2 & sspm1 & !sspm0
+}
+
+// The mode interrupts at Start and Stop.
+pub fn interrupts(c: Config) -> bool
+    ensures { λ r. ⌜ r ≡ interrupting c ⌝ }
+{
+    c.sspm3 & is_modelled(c.sspm3, c.sspm2, c.sspm1, c.sspm0)
+}
+
+// The number of a phase.
+pub fn phase_number(phase: Phase) -> u8
+    ensures { λ r. ⌜ r ≡ phaseNumber phase ⌝ }
+{
+    match phase {
+        Phase::Quiet => QUIET,
+        Phase::Address(_) => ADDRESS,
+        Phase::Data(_, _) => DATA,
+        Phase::HeldBefore(_) => HELD_BEFORE,
+        Phase::Slot(_) => SLOT,
+        Phase::HeldForSending => HELD_FOR_SENDING,
+        Phase::Sending(_, _) => SENDING,
+        Phase::MasterAcknowledge => MASTER_ACKNOWLEDGE,
+    }
+}
+
+// The bits so far; of a byte that is sent its place and the byte.
+pub fn bits_of(phase: Phase) -> Bits
+    ensures { λ r. ⌜ r ≡ bitsOf phase ⌝ }
+{
+    let none = wire::no_bits();
+    match phase {
+        Phase::Quiet => none,
+        Phase::Address(bits) => bits,
+        Phase::Data(bits, _) => bits,
+        Phase::HeldBefore(_) => none,
+        Phase::Slot(_) => none,
+        Phase::HeldForSending => none,
+        Phase::Sending(byte, place) => Bits {
+            count: place,
+            value: byte,
+        },
+        Phase::MasterAcknowledge => none,
+    }
+}
+
+// Held, refused or pulling, as the phase has it.
+pub fn phase_mark(phase: Phase) -> bool
+    ensures { λ r. ⌜ r ≡ phaseMark phase ⌝ }
+{
+    match phase {
+        Phase::Quiet => false,
+        Phase::Address(_) => false,
+        Phase::Data(_, held) => held,
+        Phase::HeldBefore(refused) => refused,
+        Phase::Slot(pulling) => pulling,
+        Phase::HeldForSending => false,
+        Phase::Sending(_, _) => false,
+        Phase::MasterAcknowledge => false,
+    }
+}
+
+// Bits come in an address and in data.
+pub fn has_bits(phase: Phase) -> bool
+    ensures { λ r. ⌜ r ≡ hasBits phase ⌝ }
+{
+    let number = phase_number(phase);
+    (number == ADDRESS) | (number == DATA)
+}
+
+// Eight bits have come, and not yet the fall after them.
+pub fn has_eight_bits(phase: Phase) -> bool
+    ensures { λ r. ⌜ r ≡ eightBits phase ⌝ }
+{
+    if has_bits(phase) {
+        wire::is_whole(bits_of(phase))
+    } else {
+        false
+    }
+}
+
+// Asked at every sample, as what the module pulls is: these three go by one match each, which runs faster than a number.
+pub fn is_sending(phase: Phase) -> bool
+    ensures { λ r. ⌜ r ≡ isSending phase ⌝ }
+{
+    match phase {
+        Phase::Quiet => false,
+        Phase::Address(_) => false,
+        Phase::Data(_, _) => false,
+        Phase::HeldBefore(_) => false,
+        Phase::Slot(_) => false,
+        Phase::HeldForSending => false,
+        Phase::Sending(_, _) => true,
+        Phase::MasterAcknowledge => false,
+    }
+}
+
 // The clock is held.
 pub fn pulls_scl(phase: Phase) -> bool
     ensures { λ r. ⌜ r ≡ sclPulled phase ⌝ }
@@ -103,6 +222,7 @@ pub fn pulls_scl(phase: Phase) -> bool
     }
 }
 
+// A 0 bit is sent, or the slot acknowledges.
 pub fn pulls_sda(phase: Phase) -> bool
     ensures { λ r. ⌜ r ≡ sdaPulled phase ⌝ }
 {
@@ -114,21 +234,6 @@ pub fn pulls_sda(phase: Phase) -> bool
         Phase::Slot(pulling) => pulling,
         Phase::HeldForSending => false,
         Phase::Sending(byte, place) => wire::is_zero_at(byte, place),
-        Phase::MasterAcknowledge => false,
-    }
-}
-
-pub fn is_sending(phase: Phase) -> bool
-    ensures { λ r. ⌜ r ≡ isSending phase ⌝ }
-{
-    match phase {
-        Phase::Quiet => false,
-        Phase::Address(_) => false,
-        Phase::Data(_, _) => false,
-        Phase::HeldBefore(_) => false,
-        Phase::Slot(_) => false,
-        Phase::HeldForSending => false,
-        Phase::Sending(_, _) => true,
         Phase::MasterAcknowledge => false,
     }
 }

@@ -5,9 +5,10 @@ use Rattle.wire.specs.declared.Remembered.{Remembered}
 use Rattle.wire.specs.declared.Remembered.the-variants.{Nothing, Wire}
 use Rattle.mssp.specs.declared.Phase.{Phase}
 use Rattle.mssp.specs.declared.Phase.the-variants.{Quiet, Address, Data, HeldBefore, Slot, HeldForSending, Sending, MasterAcknowledge}
-use Rattle.phase_image.specs.PhasePart.{phaseNumber, phaseCount, phaseByte, phaseMark, phaseFrom, wireByte, wireFrom}
+use Rattle.mssp.specs.Phases.{phaseNumber, bitsOf, phaseMark}
+use Rattle.phase_image.specs.PhasePart.{phaseFrom, wireByte, wireFrom}
 
-pub phase-back : (ph : Phase) → phaseFrom (phaseNumber ph) (phaseCount ph) (phaseByte ph) (phaseMark ph) ≡ ph
+pub phase-back : (ph : Phase) → phaseFrom (phaseNumber ph) (bitsOf ph .count) (bitsOf ph .value) (phaseMark ph) ≡ ph
 phase-back Quiet = refl
 phase-back (Address bits) = refl
 phase-back (Data bits held) = refl

@@ -6,7 +6,7 @@ use mathlib.Core.Bool.{Bool, true, false, cond, _&&_, not}
 use mir.Val.{boolByte}
 use Rattle.wire.specs.Byte.{bit}
 use Rattle.mssp.specs.declared.Module.{Module}
-use Rattle.effects.specs.Effects.{heldForSending}
+use Rattle.mssp.specs.Phases.{isHeldForSending}
 use Rattle.registers.specs.declared.Register.{Register}
 use Rattle.registers.specs.declared.Register.the-variants.{Buf, Stat, Con1, Con2, Con3, Add, Msk, Flag, Nowhere}
 use Rattle.register_bytes.specs.Bytes.{byteOf}
@@ -36,7 +36,7 @@ lone-bit true = refl
 lone-bit false = refl
 
 -- BUF is what was written while the clock is held for sending, else what it was.
-pub readback-buf : (v : ℕ) (m : Module) → holds Buf (written Buf v m) ≡ cond (heldForSending (m .phase)) v (m .live .buf)
+pub readback-buf : (v : ℕ) (m : Module) → holds Buf (written Buf v m) ≡ cond (isHeldForSending (m .phase)) v (m .live .buf)
 readback-buf v m = refl
 
 module _ (v : ℕ) (m : Module) where

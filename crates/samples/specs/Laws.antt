@@ -17,11 +17,12 @@ use Rattle.mssp.specs.declared.Phase.{Phase}
 use Rattle.mssp.specs.declared.Phase.the-variants.{Quiet, Address, Data, HeldBefore, Slot, HeldForSending, Sending, MasterAcknowledge}
 use Rattle.mssp.specs.declared.Module.{Module}
 use Rattle.mssp.specs.Module.{moduleOf}
-use Rattle.mssp.specs.Drivers.{sclPulled, sdaPulled, isSending}
+use Rattle.mssp.specs.Phases.{bitsOf, isSending}
+use Rattle.mssp.specs.Drivers.{sclPulled, sdaPulled}
 use Rattle.stretch.specs.declared.Seen.{Seen}
 use Rattle.stretch.specs.declared.Stretch.{Stretch}
 use Rattle.stretch.specs.Walking.{Onward, walk-onward, Walking, walk-on, walk-by}
-use Rattle.stretch.specs.Stretch.{takesBits, bitsOf, withBits, riseRule, fallRule, stretchBy, takingStops, takingGoes, sendingStops, sendingGoes, restingStops, restingGoes, phaseStretch, stretchFrom, stretchOf}
+use Rattle.stretch.specs.Stretch.{takesBits, withBits, riseRule, fallRule, stretchBy, takingStops, takingGoes, sendingStops, sendingGoes, restingStops, restingGoes, phaseStretch, stretchFrom, stretchOf}
 use Rattle.stretch.specs.Theorems.{stretch-within}
 use Rattle.stretch.specs.Sampled.{moduleSeen, Sampled, bits-go, sending-goes, rest-goes}
 use Rattle.samples.specs.Loop.{lentFrom, lent-is}

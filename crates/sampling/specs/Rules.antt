@@ -14,7 +14,8 @@ use Rattle.mssp.specs.declared.Phase.{Phase}
 use Rattle.mssp.specs.declared.Phase.the-variants.{Quiet, Address, Data, HeldBefore, Slot, HeldForSending, Sending, MasterAcknowledge}
 use Rattle.mssp.specs.declared.Module.{Module}
 use Rattle.mssp.specs.Module.{moduleOf, interrupting, setS, setP, setDA, setRW, setBF, setSSPOV, setCKP, setACKSTAT, setACKTIM, setSSPIF, setBUF}
-use Rattle.mssp.specs.Drivers.{sclPulled, sdaPulled, isSending}
+use Rattle.mssp.specs.Phases.{isSending}
+use Rattle.mssp.specs.Drivers.{sclPulled, sdaPulled}
 use Rattle.sampling.specs.declared.Moved.{Moved}
 
 infixl 20 _at_

@@ -25,7 +25,7 @@ fn start(c: Config, l: Live, sending: bool) -> Live
     n.rw = false;
     n.acktim = false;
     n.bf = l.bf & !sending;
-    n.sspif = l.sspif | c.scie | (c.sspm3 & (c.sspm2 & c.sspm1 & !c.sspm0));
+    n.sspif = l.sspif | c.scie | mssp::interrupts(c);
     n
 }
 
@@ -39,7 +39,7 @@ fn stop(c: Config, l: Live, sending: bool) -> Live
     n.rw = false;
     n.acktim = false;
     n.bf = l.bf & !sending;
-    n.sspif = l.sspif | c.pcie | (c.sspm3 & (c.sspm2 & c.sspm1 & !c.sspm0));
+    n.sspif = l.sspif | c.pcie | mssp::interrupts(c);
     n
 }
 

@@ -17,7 +17,8 @@ use Rattle.mssp.specs.declared.Phase.{Phase}
 use Rattle.mssp.specs.declared.Phase.the-variants.{Quiet, Address, Data, HeldBefore, Slot, HeldForSending, Sending, MasterAcknowledge}
 use Rattle.mssp.specs.declared.Module.{Module}
 use Rattle.mssp.specs.Module.{moduleOf, setACKTIM}
-use Rattle.mssp.specs.Drivers.{sclPulled, sdaPulled, isSending}
+use Rattle.mssp.specs.Phases.{isSending}
+use Rattle.mssp.specs.Drivers.{sclPulled, sdaPulled}
 use Rattle.sampling.specs.declared.Moved.{Moved}
 use Rattle.sampling.specs.Rules.{_at_, addressFallIf, dataFallIf, bitSentIf, edgeStep, seenIf, sampled}
 use Rattle.stretch.specs.declared.Seen.{Seen}

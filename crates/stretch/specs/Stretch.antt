@@ -1,17 +1,18 @@
 -- Stretches: how far a module goes before an item that a rule has to see, and where that leaves it.
 use Prim.Native.Nat.{ℕ}
-use mathlib.Core.Bool.{Bool, true, false, _||_, not}
+use mathlib.Core.Bool.{Bool, true, false, _&&_, _||_, not}
 use mathlib.Core.List.{List}
 use lib.Dec.{ltb, leb}
 use Rattle.wire.specs.declared.Bits.{Bits}
 use Rattle.wire.specs.declared.Remembered.{Remembered}
 use Rattle.wire.specs.declared.Remembered.the-variants.{Nothing, Wire}
-use Rattle.wire.specs.Byte.{none, whole, zeroAt}
+use Rattle.wire.specs.Byte.{whole, zeroAt}
 use Rattle.wire.specs.Wire.{sclOf, sdaOf, onWire}
 use Rattle.mssp.specs.declared.Phase.{Phase}
 use Rattle.mssp.specs.declared.Phase.the-variants.{Quiet, Address, Data, HeldBefore, Slot, HeldForSending, Sending, MasterAcknowledge}
 use Rattle.mssp.specs.declared.Module.{Module}
-use Rattle.mssp.specs.Drivers.{sclPulled, sdaPulled, isSending}
+use Rattle.mssp.specs.Phases.{bitsOf, isSlot, isSending, isMasterAcknowledge, hasBits, eightBits}
+use Rattle.mssp.specs.Drivers.{sclPulled, sdaPulled}
 use Rattle.stretch.specs.declared.Seen.{Seen}
 use Rattle.stretch.specs.declared.Taken.{Taken}
 use Rattle.stretch.specs.declared.Sent.{Sent}
@@ -71,27 +72,11 @@ restingOf holds pulls rise fall w items =
 abbrev pub stretchAt : Phase → Seen → ℕ → Stretch
 stretchAt ph w n = record { phase = ph; wire = w; length = n }
 
--- The phases in which a rise takes a bit, and what bits a phase has; of a byte that is sent its place and the byte.
+-- A rise takes a bit where bits come and the clock is not held.
 abbrev pub takesBits : Phase → Bool
-takesBits Quiet = false
-takesBits (Address bits) = true
-takesBits (Data bits held) = not held
-takesBits (HeldBefore refused) = false
-takesBits (Slot pulling) = false
-takesBits HeldForSending = false
-takesBits (Sending byte place) = false
-takesBits MasterAcknowledge = false
+takesBits ph = hasBits ph && not (sclPulled ph)
 
-abbrev pub bitsOf : Phase → Bits
-bitsOf Quiet = none
-bitsOf (Address bits) = bits
-bitsOf (Data bits held) = bits
-bitsOf (HeldBefore refused) = none
-bitsOf (Slot pulling) = none
-bitsOf HeldForSending = none
-bitsOf (Sending byte place) = record { count = place; value = byte }
-bitsOf MasterAcknowledge = none
-
+-- The same phase with other bits.
 abbrev pub withBits : Phase → Bits → Phase
 withBits Quiet b = Quiet
 withBits (Address bits) b = Address b
@@ -102,26 +87,13 @@ withBits HeldForSending b = HeldForSending
 withBits (Sending byte place) b = Sending byte place
 withBits MasterAcknowledge b = MasterAcknowledge
 
--- The phases without bits that have a rule for a rise, the slot only while ACKTIM stands, and for a fall.
+-- The phases that take no bits and have a rule for a rise, the slot only while ACKTIM stands.
 abbrev pub riseRule : Phase → Bool → Bool
-riseRule Quiet acktim = false
-riseRule (Address bits) acktim = false
-riseRule (Data bits held) acktim = false
-riseRule (HeldBefore refused) acktim = false
-riseRule (Slot pulling) acktim = acktim
-riseRule HeldForSending acktim = false
-riseRule (Sending byte place) acktim = false
-riseRule MasterAcknowledge acktim = true
+riseRule ph acktim = isMasterAcknowledge ph || isSlot ph && acktim
 
+-- Those that have one for a fall.
 abbrev pub fallRule : Phase → Bool
-fallRule Quiet = false
-fallRule (Address bits) = false
-fallRule (Data bits held) = whole bits
-fallRule (HeldBefore refused) = false
-fallRule (Slot pulling) = true
-fallRule HeldForSending = false
-fallRule (Sending byte place) = false
-fallRule MasterAcknowledge = true
+fallRule ph = isMasterAcknowledge ph || isSlot ph || eightBits ph
 
 -- By whether the phase takes bits, else by whether it sends.
 abbrev pub stretchBy : Bool → Bool → Phase → Bool → Seen → List ℕ → Stretch

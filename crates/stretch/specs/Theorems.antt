@@ -8,10 +8,11 @@ use Rattle.wire.specs.declared.Remembered.{Remembered}
 use Rattle.wire.specs.declared.Remembered.the-variants.{Nothing, Wire}
 use Rattle.mssp.specs.declared.Phase.{Phase}
 use Rattle.mssp.specs.declared.Module.{Module}
-use Rattle.mssp.specs.Drivers.{sclPulled, sdaPulled, isSending}
+use Rattle.mssp.specs.Phases.{bitsOf, isSending}
+use Rattle.mssp.specs.Drivers.{sclPulled, sdaPulled}
 use Rattle.stretch.specs.declared.Seen.{Seen}
 use Rattle.stretch.specs.Walking.{steps-within}
-use Rattle.stretch.specs.Stretch.{takingStops, takingGoes, sendingStops, sendingGoes, restingStops, restingGoes, takesBits, bitsOf, riseRule, fallRule, stretchBy, phaseStretch, stretchFrom, stretchOf}
+use Rattle.stretch.specs.Stretch.{takingStops, takingGoes, sendingStops, sendingGoes, restingStops, restingGoes, takesBits, riseRule, fallRule, stretchBy, phaseStretch, stretchFrom, stretchOf}
 
 within-by :
     (takes sends : Bool) (ph : Phase) (acktim : Bool) (w : Seen) (items : List ℕ)

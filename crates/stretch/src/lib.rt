@@ -2,7 +2,7 @@
 // leaves every other sample to the rules.
 ghost use mathlib.Core.Path.{_≡_};
 ghost use Rattle.stretch.specs.Seen.{lineOf, seenOn, ends, takenAt, placeSeen};
-ghost use Rattle.stretch.specs.Stretch.{takingOf, sendingOf, restingOf, stretchAt, takesBits, bitsOf, withBits, riseRule, fallRule, phaseStretch, stretchOf};
+ghost use Rattle.stretch.specs.Stretch.{takingOf, sendingOf, restingOf, stretchAt, takesBits, withBits, riseRule, fallRule, phaseStretch, stretchOf};
 use mssp::Module;
 use mssp::Phase;
 use wire::Bits;
@@ -194,38 +194,14 @@ fn ended(phase: Phase, w: Seen, length: usize) -> Stretch
     }
 }
 
-// Whether a rise takes a bit.
+// A rise takes a bit where bits come and the clock is not held.
 fn takes_bits(phase: Phase) -> bool
     ensures { λ r. ⌜ r ≡ takesBits phase ⌝ }
 {
-    match phase {
-        Phase::Quiet => false,
-        Phase::Address(_) => true,
-        Phase::Data(_, held) => !held,
-        Phase::HeldBefore(_) => false,
-        Phase::Slot(_) => false,
-        Phase::HeldForSending => false,
-        Phase::Sending(_, _) => false,
-        Phase::MasterAcknowledge => false,
-    }
-}
-
-// The bits so far; of a byte that is sent its place and the byte.
-fn bits_of(phase: Phase) -> Bits
-    ensures { λ r. ⌜ r ≡ bitsOf phase ⌝ }
-{
-    match phase {
-        Phase::Quiet => wire::no_bits(),
-        Phase::Address(bits) => bits,
-        Phase::Data(bits, _) => bits,
-        Phase::HeldBefore(_) => wire::no_bits(),
-        Phase::Slot(_) => wire::no_bits(),
-        Phase::HeldForSending => wire::no_bits(),
-        Phase::Sending(byte, place) => Bits {
-            count: place,
-            value: byte,
-        },
-        Phase::MasterAcknowledge => wire::no_bits(),
+    if mssp::has_bits(phase) {
+        !mssp::pulls_scl(phase)
+    } else {
+        false
     }
 }
 
@@ -245,64 +221,43 @@ fn with_bits(phase: Phase, bits: Bits) -> Phase
     }
 }
 
-// Whether a phase without bits has a rule for a rise. The slot has one only while ACKTIM stands.
+// Whether a phase that takes no bits has a rule for a rise. The slot has one only while ACKTIM stands.
 fn has_rise(phase: Phase, acktim: bool) -> bool
     ensures { λ r. ⌜ r ≡ riseRule phase acktim ⌝ }
 {
-    match phase {
-        Phase::Quiet => false,
-        Phase::Address(_) => false,
-        Phase::Data(_, _) => false,
-        Phase::HeldBefore(_) => false,
-        Phase::Slot(_) => acktim,
-        Phase::HeldForSending => false,
-        Phase::Sending(_, _) => false,
-        Phase::MasterAcknowledge => true,
-    }
+    let number = mssp::phase_number(phase);
+    (number == mssp::MASTER_ACKNOWLEDGE) | ((number == mssp::SLOT) & acktim)
 }
 
 // Whether it has one for a fall.
 fn has_fall(phase: Phase) -> bool
     ensures { λ r. ⌜ r ≡ fallRule phase ⌝ }
 {
-    match phase {
-        Phase::Quiet => false,
-        Phase::Address(_) => false,
-        Phase::Data(bits, _) => wire::is_whole(bits),
-        Phase::HeldBefore(_) => false,
-        Phase::Slot(_) => true,
-        Phase::HeldForSending => false,
-        Phase::Sending(_, _) => false,
-        Phase::MasterAcknowledge => true,
-    }
+    let number = mssp::phase_number(phase);
+    (number == mssp::MASTER_ACKNOWLEDGE) | (number == mssp::SLOT) | mssp::has_eight_bits(phase)
 }
 
 // A stretch in any phase.
 fn in_phase(phase: Phase, acktim: bool, w: Seen, items: &[u8]) -> Stretch
     ensures { λ r. ⌜ r ≡ phaseStretch phase acktim w (now (items .entry)) ⌝ }
 {
-    let bits = bits_of(phase);
     if takes_bits(phase) {
-        let r = taking(bits, w, items);
+        let r = taking(mssp::bits_of(phase), w, items);
         let taken = r.bits;
         let left = r.wire;
         return ended(with_bits(phase, taken), left, r.length);
     }
     if mssp::is_sending(phase) {
+        let bits = mssp::bits_of(phase);
         let r = sending(bits.value, bits.count, w, items);
         let left = r.wire;
         return ended(Phase::Sending(bits.value, r.place), left, r.length);
     }
     let holds = mssp::pulls_scl(phase);
     let pulls = mssp::pulls_sda(phase);
-    let r = resting(
-        holds,
-        pulls,
-        has_rise(phase, acktim),
-        has_fall(phase),
-        w,
-        items,
-    );
+    let rise = has_rise(phase, acktim);
+    let fall = has_fall(phase);
+    let r = resting(holds, pulls, rise, fall, w, items);
     let left = r.wire;
     ended(phase, left, r.length)
 }

@@ -1,7 +1,8 @@
 // Which modules there are, clause by clause.
 ghost use mathlib.Core.Path.{_≡_};
 ghost use Rattle.wire.specs.Wire.{sclHigh};
-ghost use Rattle.mssp.specs.Valid.{bitsFit, partsFit, isQuiet, addressBegins, eightBits, valid};
+ghost use Rattle.mssp.specs.Phases.{isQuiet};
+ghost use Rattle.mssp.specs.Valid.{bitsFit, partsFit, addressBegins, valid};
 use mssp::Module;
 use mssp::Phase;
 use wire::Bits;
@@ -20,64 +21,30 @@ fn bits_fit(bits: Bits) -> bool
     }
 }
 
+// Of a byte that is sent a place of 0 to 7; else bits that fit, and none while the clock is held.
 fn parts_fit(phase: Phase) -> bool
     ensures { λ r. ⌜ r ≡ partsFit phase ⌝ }
 {
-    match phase {
-        Phase::Quiet => true,
-        Phase::Address(bits) => bits_fit(bits),
-        Phase::Data(bits, held) => bits_fit(bits) & (!held | (bits.count == 0)),
-        Phase::HeldBefore(_) => true,
-        Phase::Slot(_) => true,
-        Phase::HeldForSending => true,
-        Phase::Sending(_, place) => place < 8,
-        Phase::MasterAcknowledge => true,
+    let bits = mssp::bits_of(phase);
+    if mssp::is_sending(phase) {
+        bits.count < 8
+    } else {
+        (!mssp::pulls_scl(phase) | (bits.count == 0)) & bits_fit(bits)
     }
 }
 
 fn is_quiet(phase: Phase) -> bool
     ensures { λ r. ⌜ r ≡ isQuiet phase ⌝ }
 {
-    match phase {
-        Phase::Quiet => true,
-        Phase::Address(_) => false,
-        Phase::Data(_, _) => false,
-        Phase::HeldBefore(_) => false,
-        Phase::Slot(_) => false,
-        Phase::HeldForSending => false,
-        Phase::Sending(_, _) => false,
-        Phase::MasterAcknowledge => false,
-    }
+    mssp::phase_number(phase) == mssp::QUIET
 }
 
+// An address of which no bit has come.
 fn address_begins(phase: Phase) -> bool
     ensures { λ r. ⌜ r ≡ addressBegins phase ⌝ }
 {
-    match phase {
-        Phase::Quiet => false,
-        Phase::Address(bits) => bits.count == 0,
-        Phase::Data(_, _) => false,
-        Phase::HeldBefore(_) => false,
-        Phase::Slot(_) => false,
-        Phase::HeldForSending => false,
-        Phase::Sending(_, _) => false,
-        Phase::MasterAcknowledge => false,
-    }
-}
-
-fn eight_bits(phase: Phase) -> bool
-    ensures { λ r. ⌜ r ≡ eightBits phase ⌝ }
-{
-    match phase {
-        Phase::Quiet => false,
-        Phase::Address(bits) => wire::is_whole(bits),
-        Phase::Data(bits, _) => wire::is_whole(bits),
-        Phase::HeldBefore(_) => false,
-        Phase::Slot(_) => false,
-        Phase::HeldForSending => false,
-        Phase::Sending(_, _) => false,
-        Phase::MasterAcknowledge => false,
-    }
+    let bits = mssp::bits_of(phase);
+    (mssp::phase_number(phase) == mssp::ADDRESS) & (bits.count == 0)
 }
 
 fn scl_high(remembered: Remembered) -> bool
@@ -95,7 +62,7 @@ pub fn module_valid(m: Module) -> bool
 {
     let config = m.config;
     let sspen = config.sspen;
-    let modelled = config.sspm2 & config.sspm1 & !config.sspm0;
+    let modelled = mssp::is_modelled(config.sspm3, config.sspm2, config.sspm1, config.sspm0);
     let live = m.live;
     let s = live.s;
     let p = live.p;
@@ -108,7 +75,7 @@ pub fn module_valid(m: Module) -> bool
     let parts = parts_fit(phase);
     let quiet = is_quiet(phase);
     let begins = address_begins(phase);
-    let eight = eight_bits(phase);
+    let eight = mssp::has_eight_bits(phase);
     let held = mssp::pulls_scl(phase);
     parts
         & !(s & p)

@@ -40,16 +40,7 @@ pub struct View {
 fn is_refused(phase: Phase) -> bool
     ensures { λ r. ⌜ r ≡ refusedOf phase ⌝ }
 {
-    match phase {
-        Phase::Quiet => false,
-        Phase::Address(_) => false,
-        Phase::Data(_, _) => false,
-        Phase::HeldBefore(refused) => refused,
-        Phase::Slot(_) => false,
-        Phase::HeldForSending => false,
-        Phase::Sending(_, _) => false,
-        Phase::MasterAcknowledge => false,
-    }
+    (mssp::phase_number(phase) == mssp::HELD_BEFORE) & mssp::phase_mark(phase)
 }
 
 pub fn draw(s: State) -> View
@@ -59,6 +50,7 @@ pub fn draw(s: State) -> View
     let c = m.config;
     let l = m.live;
     let phase = m.phase;
+    let bits = mssp::bits_of(phase);
     let line = m.line;
     let remembered = line.remembered;
     View {
@@ -73,9 +65,9 @@ pub fn draw(s: State) -> View
         flag: l.sspif as u8,
         scl_pulled: mssp::pulls_scl(phase) as u8,
         sda_pulled: mssp::pulls_sda(phase) as u8,
-        phase: phase_image::phase_number(phase),
-        bits: phase_image::phase_count(phase),
-        byte: phase_image::phase_byte(phase),
+        phase: mssp::phase_number(phase),
+        bits: bits.count,
+        byte: bits.value,
         refused: is_refused(phase) as u8,
         wire: phase_image::wire_byte(remembered),
         mark: line.mark as u8,

@@ -108,7 +108,12 @@ fn write_verdict(m: Module, register: Register, v: u8) -> Verdict
         Register::Buf => done,
         Register::Stat => done,
         Register::Con1 => {
-            let modelled = (v / 4 % 2 == 1) & (v / 2 % 2 == 1) & !(v / 1 % 2 == 1);
+            let modelled = mssp::is_modelled(
+                v / 8 % 2 == 1,
+                v / 4 % 2 == 1,
+                v / 2 % 2 == 1,
+                v / 1 % 2 == 1,
+            );
             refusals::pick_verdict((v / 32 % 2 == 1) & !modelled, no_mode, done)
         }
         Register::Con2 => refusals::pick_verdict(!(v / 2 % 16 == 0), reserved, done),

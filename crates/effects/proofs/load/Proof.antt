@@ -4,7 +4,7 @@ use Rattle.effects.proofs.load.Statement.{statement}
 use Rattle.effects.proofs.load.Tie as tie
 
 taken-while-held : tie.Need-returns
-taken-while-held c = simp (c .before .pick-byte .ensures, c .before .before .before .before .before .before .is-held-for-sending .ensures)
+taken-while-held c = simp (c .before .pick-byte .ensures, c .before .before .before .before .before .before .phase-number .ensures)
 
 pub load-spec : {M : Type 1} → statement M
 load-spec =

@@ -7,11 +7,11 @@ pub module-part-spec : {M : Type 1} → statement M
 module-part-spec =
     tie.close
     (tie.spec
-    (λ c κs. search needs) (λ c κs. search needs) (λ c κs. search needs) (λ c κs. search needs) (λ c. search needs)
-    (λ c κs. search needs) (λ c κs. search needs) (λ c κs. search needs) (λ c κs. search needs) (λ c. search needs)
-    (λ c κs. search needs) (λ c. search needs)
+    (λ c κs. search needs) (λ c κs. search needs) (λ c κs. search needs) (λ c κs. search needs) (λ c κs. search needs)
+    (λ c. search needs) (λ c κs. search needs) (λ c κs. search needs) (λ c. search needs) (λ c κs. search needs)
+    (λ c. search needs)
     (λ c.
-    let count = c .before .before .before .before in
-    let con3 = count .before .before .before in
+    let number = c .before .before .before in
+    let con3 = number .before .before in
     let con1 = con3 .before .before in
-    simp (con1 .before .stat .ensures, con1 .con1 .ensures, con3 .before .con2 .ensures, con3 .con3 .ensures, count .before .phase-number .ensures, count .phase-count .ensures, c .before .before .before .phase-byte .ensures, c .before .before .phase-mark .ensures, c .before .wire-byte .ensures)))
+    simp (con1 .before .before .before .bits-of .ensures, con1 .before .stat .ensures, con1 .con1 .ensures, con3 .before .con2 .ensures, con3 .con3 .ensures, number .phase-number .ensures, c .before .before .phase-mark .ensures, c .before .wire-byte .ensures)))

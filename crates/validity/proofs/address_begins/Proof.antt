@@ -7,8 +7,5 @@ pub address-begins-spec : {M : Type 1} → statement M
 address-begins-spec =
     tie.close
     (tie.spec
-    (λ c. search needs) (λ c. search needs) (λ c. search needs) (λ c. search needs) (λ c. search needs)
-    (λ c. search needs) (λ c. search needs) (λ c. search needs) (λ c. search needs)
-    (λ c. simp (c .before .before .phase .given .1))
-    (λ c. search needs) (λ c. search needs) (λ c. search needs) (λ c. search needs) (λ c. search needs)
-    (λ c. search needs))
+    (λ c κs. search needs) (λ c κs. search needs)
+    (λ c. simp (c .before .before .bits-of .ensures, c .before .phase-number .ensures)))

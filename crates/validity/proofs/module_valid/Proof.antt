@@ -6,11 +6,11 @@ use Rattle.validity.proofs.module_valid.Tie as tie
 every-clause : tie.Need-returns
 every-clause c =
     let quiet = c .before .before .before in
-    simp (quiet .before .before .scl-high .ensures, quiet .before .parts-fit .ensures, quiet .is-quiet .ensures, c .before .before .address-begins .ensures, c .before .eight-bits .ensures, c .pulls-scl .ensures)
+    simp (quiet .before .before .before .before .before .is-modelled .ensures, quiet .before .before .scl-high .ensures, quiet .before .parts-fit .ensures, quiet .is-quiet .ensures, c .before .before .address-begins .ensures, c .before .has-eight-bits .ensures, c .pulls-scl .ensures)
 
 pub module-valid-spec : {M : Type 1} → statement M
 module-valid-spec =
     tie.close
     (tie.spec
     (λ c κs. search needs) (λ c κs. search needs) (λ c κs. search needs) (λ c κs. search needs) (λ c κs. search needs)
-    (λ c κs. search needs) every-clause)
+    (λ c κs. search needs) (λ c κs. search needs) every-clause)

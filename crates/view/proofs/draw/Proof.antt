@@ -7,8 +7,14 @@ pub draw-spec : {M : Type 1} → statement M
 draw-spec =
     tie.close
     (tie.spec
-    (λ c κs. search needs) (λ c κs. search needs) (λ c κs. search needs) (λ c κs. search needs) (λ c. search needs)
-    (λ c κs. search needs) (λ c. search needs) (λ c κs. search needs) (λ c. search needs) (λ c κs. search needs)
-    (λ c κs. search needs) (λ c κs. search needs) (λ c κs. search needs) (λ c. search needs) (λ c κs. search needs)
-    (λ c. search needs) (λ c. search needs)
-    (λ c. simp (c .before .before .before .before .before .before .before .before .before .before .before .before .before .stat .ensures, c .before .before .before .before .before .before .before .before .before .before .before .before .con1 .ensures, c .before .before .before .before .before .before .before .before .before .before .before .con2 .ensures, c .before .before .before .before .before .before .before .before .before .before .con3 .ensures, c .before .before .before .before .before .before .before .before .pulls-scl .ensures, c .before .before .before .before .before .before .before .pulls-sda .ensures, c .before .before .before .before .before .before .phase-number .ensures, c .before .before .before .before .before .phase-count .ensures, c .before .before .before .before .phase-byte .ensures, c .before .before .before .is-refused .ensures, c .before .before .wire-byte .ensures)))
+    (λ c κs. search needs) (λ c κs. search needs) (λ c κs. search needs) (λ c κs. search needs) (λ c κs. search needs)
+    (λ c. search needs) (λ c κs. search needs) (λ c. search needs) (λ c κs. search needs) (λ c. search needs)
+    (λ c κs. search needs) (λ c κs. search needs) (λ c. search needs) (λ c κs. search needs) (λ c. search needs)
+    (λ c. search needs)
+    (λ c.
+    let wire = c .before .before in
+    let number = wire .before .before in
+    let scl = number .before .before in
+    let con3 = scl .before .before in
+    let con1 = con3 .before .before in
+    simp (con1 .before .before .before .bits-of .ensures, con1 .before .stat .ensures, con1 .con1 .ensures, con3 .before .con2 .ensures, con3 .con3 .ensures, scl .pulls-scl .ensures, number .before .pulls-sda .ensures, number .phase-number .ensures, wire .before .is-refused .ensures, wire .wire-byte .ensures)))

@@ -4,7 +4,7 @@ use Rattle.writes.proofs.write_verdict.Statement.{statement}
 use Rattle.writes.proofs.write_verdict.Tie as tie
 
 mode-is-modelled : tie.Need-returns-3
-mode-is-modelled c = simp (c .before .enum-told3 .given .1) (c .pick-verdict .ensures)
+mode-is-modelled c = simp (c .before .before .enum-told3 .given .1, c .pick-verdict .ensures, c .before .is-modelled .ensures)
 
 boen-is-reserved : tie.Need-returns-5
 boen-is-reserved c = simp (c .before .enum-told5 .given .1) (c .pick-verdict3 .ensures)
@@ -13,9 +13,9 @@ pub write-verdict-spec : {M : Type 1} → statement M
 write-verdict-spec =
     tie.close
     (tie.spec
-    (λ c. search needs) (λ c. search needs) (λ c. search needs) (λ c κs. search needs) (λ c. search needs)
-    (λ c κs. search needs) (λ c. search needs) (λ c κs. search needs) (λ c. search needs) (λ c. search needs)
-    (λ c. search needs) (λ c. search needs)
+    (λ c. search needs) (λ c. search needs) (λ c. search needs) (λ c κs. search needs) (λ c κs. search needs)
+    (λ c. search needs) (λ c κs. search needs) (λ c. search needs) (λ c κs. search needs) (λ c. search needs)
+    (λ c. search needs) (λ c. search needs) (λ c. search needs)
     (λ c. simp (c .enum-told .given .1))
     (λ c. simp (c .enum-told2 .given .1))
     mode-is-modelled
