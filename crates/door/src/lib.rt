@@ -1,25 +1,16 @@
 // The C door: every function that C calls. A state is 48 lent bytes, an answer is numbers. Refusals are looked at in the
 // paper's order, and a refused call changes no byte.
 ghost use mathlib.Core.Path.{_≡_};
-ghost use lib.ListN.{length};
-ghost use Rattle.image.specs.Image.{imageLength};
-ghost use Rattle.door.specs.Outcome.{outcome, lent, refused, settled};
-ghost use Rattle.door.specs.Door.{doorSetup, doorRead, doorWrite, doorSample, doorCall, doorRun, doorLook, doorFind};
-use firmware::Made;
+ghost use Rattle.settling.specs.Outcome.{outcome, lent, imageOver, settledAccess};
+ghost use Rattle.firmware_calls.specs.Calls.{doorSetup, doorCall, doorRun};
+ghost use Rattle.door.specs.Door.{imageWith, doorRead, doorWrite, doorSample, doorLook, doorFind};
 use firmware::State;
 use image::Decoded;
-use image::IMAGE_LENGTH;
 use refusals::Refusal;
 use refusals::Verdict;
+use registers::Access;
+use settling::Answer;
 use view::View;
-
-// The refusal's number, 0 for none; the byte that a read gives, else 0; beside refusal 4 of a run the first bad item, else 0.
-#[repr(C)]
-pub struct Answer {
-    pub refusal: u32,
-    pub value: u32,
-    pub item: u64,
-}
 
 // A part of the caller's record; beside refusal 4 the first bad item. Refused, the part is empty and at 0.
 #[repr(C)]
@@ -30,32 +21,14 @@ pub struct Part {
     pub length: u64,
 }
 
-fn refuse(why: Refusal, item: u64) -> Answer
-    ensures { λ r. ⌜ r ≡ refused why item ⌝ }
+// A register access reaches the module alone.
+fn settle_access(state: &mut [u8], access: Access, s: State) -> Answer
+    ensures { λ r. ⌜ outcome r (now (state .exit)) ≡ settledAccess (λ m. imageOver (imageWith s m) (now (state .entry))) access (now (state .entry)) ⌝ }
 {
-    Answer {
-        refusal: refusals::number(why) as u32,
-        value: 0,
-        item: item,
-    }
-}
-
-// Done: the next state is saved. Refused: nothing is.
-fn settle(state: &mut [u8], verdict: Verdict, item: u64, next: State) -> Answer
-    requires { ⌜ length (now state) ≡ imageLength ⌝ }
-    ensures { λ r. ⌜ outcome r (now (state .exit)) ≡ settled verdict item next (now (state .entry)) ⌝ }
-{
-    match verdict {
-        Verdict::Done(value) => {
-            image::save(state, next);
-            Answer {
-                refusal: 0,
-                value: value as u32,
-                item: 0,
-            }
-        }
-        Verdict::Refused(why) => refuse(why, item),
-    }
+    let verdict = access.verdict;
+    let left = access.mssp;
+    let image = image::encode(State { mssp: left, ..s });
+    settling::settle(state, verdict, 0, &image)
 }
 
 // Makes a state and writes its image. Refuses with 6 (not 48 bytes), 5 (n outside 1 to 256).
@@ -63,13 +36,7 @@ fn settle(state: &mut [u8], verdict: Verdict, item: u64, next: State) -> Answer
 pub extern "C" fn wherryoar_setup(state: &mut [u8], add: u8, n: u64) -> Answer
     ensures { λ r. ⌜ outcome r (now (state .exit)) ≡ doorSetup (now (state .entry)) add n ⌝ }
 {
-    if state.len() != IMAGE_LENGTH {
-        return refuse(Refusal::NoState, 0);
-    }
-    match firmware::set_up(add, n) {
-        Made::Ready(s) => settle(state, Verdict::Done(0), 0, s),
-        Made::Refused(why) => refuse(why, 0),
-    }
+    firmware_calls::set_up(state, add, n)
 }
 
 // Reads a register. Refuses with 6, 1.
@@ -78,14 +45,8 @@ pub extern "C" fn wherryoar_read(state: &mut [u8], number: u32) -> Answer
     ensures { λ r. ⌜ outcome r (now (state .exit)) ≡ doorRead (now (state .entry)) number ⌝ }
 {
     match image::decode(state) {
-        Decoded::NoImage => refuse(Refusal::NoState, 0),
-        Decoded::Valid(s) => {
-            let m = s.mssp;
-            let access = registers::read(m, number);
-            let left = access.mssp;
-            let verdict = access.verdict;
-            settle(state, verdict, 0, State { mssp: left, ..s })
-        }
+        Decoded::NoImage => settling::no_state(),
+        Decoded::Image(s) => settle_access(state, registers::read(s.mssp, number), s),
     }
 }
 
@@ -95,14 +56,8 @@ pub extern "C" fn wherryoar_write(state: &mut [u8], number: u32, value: u8) -> A
     ensures { λ r. ⌜ outcome r (now (state .exit)) ≡ doorWrite (now (state .entry)) number value ⌝ }
 {
     match image::decode(state) {
-        Decoded::NoImage => refuse(Refusal::NoState, 0),
-        Decoded::Valid(s) => {
-            let m = s.mssp;
-            let written = writes::write(m, number, value);
-            let next = written.mssp;
-            let verdict = written.verdict;
-            settle(state, verdict, 0, State { mssp: next, ..s })
-        }
+        Decoded::NoImage => settling::no_state(),
+        Decoded::Image(s) => settle_access(state, writes::write(s.mssp, number, value), s),
     }
 }
 
@@ -112,13 +67,13 @@ pub extern "C" fn wherryoar_sample(state: &mut [u8], level: u32) -> Answer
     ensures { λ r. ⌜ outcome r (now (state .exit)) ≡ doorSample (now (state .entry)) level ⌝ }
 {
     match image::decode(state) {
-        Decoded::NoImage => refuse(Refusal::NoState, 0),
-        Decoded::Valid(s) => {
+        Decoded::NoImage => settling::no_state(),
+        Decoded::Image(s) => {
             if level > 3 {
-                return refuse(Refusal::NoItem, 0);
+                return settling::refuse(Refusal::NoItem, 0);
             }
-            let next = trace::sample(s, level as u8);
-            settle(state, Verdict::Done(0), 0, next)
+            let image = image::encode(trace::sample(s, level as u8));
+            settling::settle(state, Verdict::Done(0), 0, &image)
         }
     }
 }
@@ -128,15 +83,7 @@ pub extern "C" fn wherryoar_sample(state: &mut [u8], level: u32) -> Answer
 pub extern "C" fn wherryoar_call(state: &mut [u8], buffer: &mut [u8], start: u64, n: u64) -> Answer
     ensures { λ r. ⌜ lent (outcome r (now (state .exit))) (now (buffer .exit)) ≡ doorCall (now (state .entry)) (now (buffer .entry)) start n ⌝ }
 {
-    match image::decode(state) {
-        Decoded::NoImage => refuse(Refusal::NoState, 0),
-        Decoded::Valid(s) => {
-            let called = firmware::call(s, buffer, start, n);
-            let verdict = called.verdict;
-            let next = called.state;
-            settle(state, verdict, 0, next)
-        }
-    }
+    firmware_calls::call(state, buffer, start, n)
 }
 
 // Runs a trace over a window of the caller's buffer. Refuses with 6, 5, 4 (an item above 4).
@@ -150,15 +97,7 @@ pub extern "C" fn wherryoar_run(
 ) -> Answer
     ensures { λ r. ⌜ lent (outcome r (now (state .exit))) (now (buffer .exit)) ≡ doorRun (now (state .entry)) (now (buffer .entry)) start n (now (items .entry)) ⌝ }
 {
-    match image::decode(state) {
-        Decoded::NoImage => refuse(Refusal::NoState, 0),
-        Decoded::Valid(s) => {
-            let ran = trace::run_in(s, buffer, start, n, items);
-            let verdict = ran.verdict;
-            let next = ran.state;
-            settle(state, verdict, ran.item, next)
-        }
-    }
+    firmware_calls::run(state, buffer, start, n, items)
 }
 
 // Looks at a state and changes nothing. Refuses with 6.
@@ -168,7 +107,7 @@ pub extern "C" fn wherryoar_look(state: &[u8]) -> View
 {
     match image::decode(state) {
         Decoded::NoImage => view::no_view(),
-        Decoded::Valid(s) => view::draw(s),
+        Decoded::Image(s) => view::draw(s),
     }
 }
 

@@ -1,12 +1,19 @@
 -- `door::wherryoar_sample` meets its contract.
 use borrow.Author.Needs.{needs}
-use Rattle.door.specs.Laws.{decoded-length, no-image, of-state, level-refused, level-settled}
+use mathlib.Core.Path.{ap}
+use Rattle.image.specs.Image.{stateIn}
+use Rattle.image.specs.Theorems.{image-length}
+use Rattle.settling.specs.Laws.{no-image, of-state}
+use Rattle.door.specs.Laws.{level-refused, level-settled}
 use Rattle.door.proofs.wherryoar_sample.Statement.{statement}
 use Rattle.door.proofs.wherryoar_sample.Tie as tie
 
 what-the-sample-leaves : tie.Need-returns-3
 what-the-sample-leaves c =
-    of-state _ (c .before .before .before .before .before .before .before .before .before .decode .ensures) _ _ (c .before .before .before .before .before .before .before .s .given .1) (level-settled _ _ (c .before .before .before .before .before .if1 .left) (c .before .before .before .before .sample .ensures) (c .before .before .settle .ensures))
+    let sample = c .before .before .before .before .before .before in
+    let is = sample .before .before .before .s .given .1 in
+    let decoded = sample .before .before .before .before .before .decode .ensures in
+    of-state decoded _ _ (ap stateIn is) (level-settled _ _ (sample .before .if1 .left) (image-length _ _ decoded is) (sample .sample .ensures) (c .before .before .before .before .before .encode .ensures) (c .before .before .settle .ensures))
 
 pub wherryoar-sample-spec : {M : Type 1} → statement M
 wherryoar-sample-spec =
@@ -14,10 +21,9 @@ wherryoar-sample-spec =
     (tie.spec
     (λ c κs. search needs) (λ c. search needs) (λ c κs. search needs) (λ c. search needs) (λ c κs. search needs)
     (λ c. search needs)
-    (λ c. of-state _ (c .before .before .before .before .before .decode .ensures) _ _ (c .before .before .before .s .given .1) (level-refused _ _ _ (c .before .if1 .taken) (c .refuse2 .ensures)))
-    (λ c. search needs) (λ c κs. search needs)
-    (λ c κs. decoded-length _ (c .before .before .before .before .before .before .decode .ensures) (c .before .before .before .before .s .given .1))
+    (λ c. of-state (c .before .before .before .before .before .decode .ensures) _ _ (ap stateIn (c .before .before .before .s .given .1)) (level-refused _ _ _ (c .before .if1 .taken) (c .refuse .ensures)))
+    (λ c. search needs) (λ c κs. search needs) (λ c κs. search needs) (λ c. search needs) (λ c κs. search needs)
     (λ c. search needs)
-    (λ c. no-image _ (c .before .before .before .decode .ensures) _ _ (c .before .enum-told .given .1) (simp (c .refuse .ensures)))
+    (λ c. no-image (c .before .before .before .decode .ensures) _ _ (ap stateIn (c .before .enum-told .given .1)) (simp (c .no-state .ensures)))
     (λ c. search needs)
     what-the-sample-leaves)

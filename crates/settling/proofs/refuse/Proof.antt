@@ -1,7 +1,7 @@
--- `door::refuse` meets its contract.
+-- `settling::refuse` meets its contract.
 use borrow.Author.Needs.{needs}
-use Rattle.door.proofs.refuse.Statement.{statement}
-use Rattle.door.proofs.refuse.Tie as tie
+use Rattle.settling.proofs.refuse.Statement.{statement}
+use Rattle.settling.proofs.refuse.Tie as tie
 
 pub refuse-spec : {M : Type 1} → statement M
 refuse-spec =

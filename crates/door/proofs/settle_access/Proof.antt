@@ -1,0 +1,13 @@
+-- `door::settle_access` meets its contract.
+use borrow.Author.Needs.{needs}
+use denote.Ref.{now}
+use Rattle.door.specs.Laws.{access-written}
+use Rattle.door.proofs.settle_access.Statement.{statement}
+use Rattle.door.proofs.settle_access.Tie as tie
+
+pub settle-access-spec : {M : Type 1} → statement M
+settle-access-spec =
+    tie.close
+    (tie.spec
+    (λ c κs. search needs) (λ c. search needs) (λ c κs. search needs) (λ c. search needs)
+    (λ c. let a = c .before .before .before .before .before .before .before .before .before .args in access-written (now (a .state)) (a .access) (a .s) (c .before .before .before .before .before .encode .ensures) (c .before .before .settle .ensures)))
