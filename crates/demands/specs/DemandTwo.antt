@@ -35,12 +35,12 @@ use Rattle.image.specs.Laws.{encode-length}
 use Rattle.image.specs.Theorems.{decode-encode, decode-exactly, encode-injective}
 use Rattle.view.specs.View.{viewOf, noView}
 use Rattle.settling.specs.declared.Answer.{Answer}
-use Rattle.settling.specs.Outcome.{Outcome, Lent, lent, refused, settled, settledAccess, noState, byState}
+use Rattle.settling.specs.Outcome.{Outcome, Lent, lent, refused, settled, settledAccess, noState, byState, byAccess}
 use Rattle.settling.specs.Left.{ImageOfSome}
 use Rattle.settling.specs.Theorems.{stays}
 use Rattle.firmware_calls.specs.Calls.{setupIf, doorSetup, settledCall, settledRun}
 use Rattle.firmware_calls.specs.Theorems.{setup-keeps}
-use Rattle.door.specs.Door.{imageWith, levelVerdict}
+use Rattle.door.specs.Door.{moduleIn, imageWith, levelVerdict}
 use Rattle.doorkept.specs.Image.{setup-leaves, read-stays, write-stays, sample-stays, call-stays, run-stays}
 use Rattle.demands.specs.Calls.{DoorCall, setUp, readRegister, writeRegister, feedSample, callHandler, runTrace, Host, host, Reply, reply, answers, leftAfter, atDoor, told, inWindow, madeOf, byDefinition, ImageOf, ImageOfNone}
 use Rattle.demands.specs.Demands.{DemandTwo}
@@ -125,7 +125,7 @@ module _ (w : Served) where
   module _ (v : T (validState s)) where
     accesses :
         (work : Module → Access) → (accepted (work (s .mssp) .verdict) ≡ false → work (s .mssp) .mssp ≡ s .mssp)
-        → unlent (w .bytes) (byState (decodeOf bytes) (noState bytes) (λ t. settledAccess (imageWith t) (work (t .mssp)) bytes))
+        → unlent (w .bytes) (byAccess moduleIn imageWith (decodeOf bytes) work bytes)
         ≡ imageReply (reply (told (work (s .mssp) .verdict)) (served (stateOf (work (s .mssp) .mssp) (s .handler)) (w .bytes)))
     accesses work same =
         ap (unlent (w .bytes)) (on-state (noState bytes) (λ t. settledAccess (imageWith t) (work (t .mssp)) bytes) s v)

@@ -19,21 +19,22 @@ use Rattle.finder.specs.Find.{spanOf}
 use Rattle.view.specs.declared.View.{View}
 use Rattle.view.specs.View.{viewOf, noView}
 use Rattle.image.specs.Image.{encodeOf, decodeOf}
-use Rattle.settling.specs.Outcome.{Outcome, settled, settledAccess, noState, byState}
+use Rattle.settling.specs.Outcome.{Outcome, settled, noState, byState, byAccess}
 use Rattle.door.specs.declared.Part.{Part}
 
 -- ---- register access: only the module is reached
+abbrev pub moduleIn : State → Module
+moduleIn s = s .mssp
+
 -- The image of a state with another module.
 abbrev pub imageWith : State → Module → List ℕ
 imageWith s m = encodeOf (stateOf m (s .handler))
 
 abbrev pub doorRead : List ℕ → ℕ → Outcome
-doorRead bytes number =
-    byState (decodeOf bytes) (noState bytes) (λ s. settledAccess (imageWith s) (readOf (s .mssp) number) bytes)
+doorRead bytes number = byAccess moduleIn imageWith (decodeOf bytes) (λ m. readOf m number) bytes
 
 abbrev pub doorWrite : List ℕ → ℕ → ℕ → Outcome
-doorWrite bytes number value =
-    byState (decodeOf bytes) (noState bytes) (λ s. settledAccess (imageWith s) (writeOf (s .mssp) number value) bytes)
+doorWrite bytes number value = byAccess moduleIn imageWith (decodeOf bytes) (λ m. writeOf m number value) bytes
 
 -- ---- a sample: a level is 0 to 3
 abbrev pub levelVerdict : ℕ → Verdict

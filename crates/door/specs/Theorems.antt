@@ -6,20 +6,16 @@ use Rattle.registers.specs.Values.{readOf}
 use Rattle.writes.specs.Writes.{writeOf}
 use Rattle.trace.specs.Run.{sampledBy}
 use Rattle.image.specs.Image.{encodeOf, decodeOf}
-use Rattle.settling.specs.Outcome.{settled, settledAccess, Keeps}
-use Rattle.settling.specs.Theorems.{settled-keeps, state-keeps}
-use Rattle.door.specs.Door.{imageWith, doorRead, doorWrite, levelVerdict, doorSample}
+use Rattle.settling.specs.Outcome.{settled, Keeps}
+use Rattle.settling.specs.Theorems.{settled-keeps, state-keeps, access-keeps}
+use Rattle.door.specs.Door.{moduleIn, imageWith, doorRead, doorWrite, levelVerdict, doorSample}
 
 module _ (bytes : List ℕ) where
   pub read-keeps : (number : ℕ) → Keeps bytes (doorRead bytes number)
-  read-keeps number =
-      state-keeps bytes (decodeOf bytes) (λ s. settledAccess (imageWith s) (readOf (s .mssp) number) bytes)
-      (λ s. let access = readOf (s .mssp) number in settled-keeps bytes (access .verdict) 0 (imageWith s (access .mssp)))
+  read-keeps number = access-keeps bytes (decodeOf bytes) moduleIn imageWith (λ m. readOf m number)
 
   pub write-keeps : (number value : ℕ) → Keeps bytes (doorWrite bytes number value)
-  write-keeps number value =
-      state-keeps bytes (decodeOf bytes) (λ s. settledAccess (imageWith s) (writeOf (s .mssp) number value) bytes)
-      (λ s. let access = writeOf (s .mssp) number value in settled-keeps bytes (access .verdict) 0 (imageWith s (access .mssp)))
+  write-keeps number value = access-keeps bytes (decodeOf bytes) moduleIn imageWith (λ m. writeOf m number value)
 
   pub sample-keeps : (level : ℕ) → Keeps bytes (doorSample bytes level)
   sample-keeps level =

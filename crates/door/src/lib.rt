@@ -72,7 +72,8 @@ pub extern "C" fn wherryoar_sample(state: &mut [u8], level: u32) -> Answer
             if level > 3 {
                 return settling::refuse(Refusal::NoItem, 0);
             }
-            let image = image::encode(trace::sample(s, level as u8));
+            let next = trace::sample(s, level as u8);
+            let image = image::encode(next);
             settling::settle(state, Verdict::Done(0), 0, &image)
         }
     }

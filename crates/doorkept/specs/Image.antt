@@ -31,12 +31,12 @@ use Rattle.runkept.specs.Kept.{setup-kept, called-kept, run-in-kept}
 use Rattle.image.specs.HandlerPart.{handlerValid}
 use Rattle.image.specs.Image.{imageLength, validState, encodeOf, decodeOf}
 use Rattle.image.specs.Theorems.{decode-encode, decode-valid}
-use Rattle.settling.specs.Outcome.{settled, settledAccess, noState, byState}
+use Rattle.settling.specs.Outcome.{settled, byAccess}
 use Rattle.settling.specs.Left.{ImageOfSome, Leaves}
-use Rattle.settling.specs.Theorems.{refused-never-accepted, settled-leaves, state-leaves, state-leaves-lent, stays}
+use Rattle.settling.specs.Theorems.{refused-never-accepted, settled-leaves, state-leaves, access-leaves, state-leaves-lent, stays}
 use Rattle.firmware_calls.specs.Calls.{setupIf, doorSetup, settledCall, doorCall, settledRun, doorRun}
 use Rattle.firmware_calls.specs.Theorems.{call-keeps, run-keeps}
-use Rattle.door.specs.Door.{imageWith, doorRead, doorWrite, levelVerdict, doorSample}
+use Rattle.door.specs.Door.{moduleIn, imageWith, doorRead, doorWrite, levelVerdict, doorSample}
 use Rattle.door.specs.Theorems.{read-keeps, write-keeps, sample-keeps}
 
 -- ---- a state by its clauses, and by the test that decoding makes
@@ -88,22 +88,21 @@ module _ (bytes : List ℕ) where
   given : (s : State) → decodeOf bytes ≡ some s → ValidState s
   given s e = state-clauses s (decode-valid bytes s e)
 
-  access-leaves :
+  access-kept :
       (work : Module → Access) → ((m : Module) → ValidModule m → ValidModule (work m .mssp))
-      → Leaves decodeOf (byState (decodeOf bytes) (noState bytes) (λ s. settledAccess (imageWith s) (work (s .mssp)) bytes))
-  access-leaves work keeps =
-      state-leaves decodeOf bytes (λ s. settledAccess (imageWith s) (work (s .mssp)) bytes)
+      → Leaves decodeOf (byAccess moduleIn imageWith (decodeOf bytes) work bytes)
+  access-kept work keeps =
+      access-leaves decodeOf bytes moduleIn imageWith work
       (λ s e.
       let v = given s e in
-      let next : State = stateOf (work (s .mssp) .mssp) (s .handler) in
-      settled-leaves decodeOf (work (s .mssp) .verdict) 0 bytes
-      (image-of next (record { mssp = keeps (s .mssp) (v .mssp); handler = v .handler })))
+      image-of (stateOf (work (s .mssp) .mssp) (s .handler))
+      (record { mssp = keeps (s .mssp) (v .mssp); handler = v .handler }))
 
   pub read-leaves : (number : ℕ) → Leaves decodeOf (doorRead bytes number)
-  read-leaves number = access-leaves (λ m. readOf m number) (λ m v. access-read-kept m number v)
+  read-leaves number = access-kept (λ m. readOf m number) (λ m v. access-read-kept m number v)
 
   pub write-leaves : (number value : ℕ) → Leaves decodeOf (doorWrite bytes number value)
-  write-leaves number value = access-leaves (λ m. writeOf m number value) (λ m v. access-write-kept m number value v)
+  write-leaves number value = access-kept (λ m. writeOf m number value) (λ m v. access-write-kept m number value v)
 
   pub sample-leaves : (level : ℕ) → Leaves decodeOf (doorSample bytes level)
   sample-leaves level =

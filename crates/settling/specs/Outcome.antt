@@ -62,6 +62,11 @@ unfoldable pub byState : {S A : Type 0} → Option S → A → (S → A) → A
 byState none nothing work = nothing
 byState (some s) nothing work = work s
 
+-- An access to the module of the state that the bytes decode to, of a state that has one.
+abbrev pub byAccess : {S : Type 0} → (S → Module) → (S → Module → List ℕ) → Option S → (Module → Access) → List ℕ → Outcome
+byAccess moduleIn imageWith known work bytes =
+    byState known (noState bytes) (λ s. settledAccess (imageWith s) (work (moduleIn s)) bytes)
+
 -- Refused, a call leaves the state's bytes, and the buffer's where one is lent.
 abbrev pub Keeps : List ℕ → Outcome → Type 0
 Keeps bytes o = 0 < o .answer .refusal → o .state ≡ bytes

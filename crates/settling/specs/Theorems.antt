@@ -12,8 +12,10 @@ use Rattle.refusals.specs.declared.Refusal.the-variants.{NoState, NoRegister, R
 use Rattle.refusals.specs.declared.Verdict.{Verdict}
 use Rattle.refusals.specs.declared.Verdict.the-variants.{Done, Refused}
 use Rattle.refusals.specs.Numbers.{accepted}
+use Rattle.mssp.specs.declared.Module.{Module}
+use Rattle.registers.specs.declared.Access.{Access}
 use Rattle.settling.specs.declared.Answer.{Answer}
-use Rattle.settling.specs.Outcome.{Outcome, outcome, Lent, lent, answerOf, refused, settled, noState, byState, Keeps, KeepsLent}
+use Rattle.settling.specs.Outcome.{Outcome, outcome, Lent, lent, answerOf, refused, settled, settledAccess, noState, byState, byAccess, Keeps, KeepsLent}
 use Rattle.settling.specs.Left.{ImageOfSome, Leaves}
 
 -- ---- only one outcome fits: answers and bytes that meet one contract are the same
@@ -53,6 +55,13 @@ module _ (bytes : List ℕ) where
     pub state-keeps : (work : S → Outcome) → ((s : S) → Keeps bytes (work s)) → Keeps bytes (byState known (noState bytes) work)
     state-keeps work keeps = by-state (Keeps bytes) known (noState bytes) work (λ h. refl) (λ s e. keeps s)
 
+    pub access-keeps :
+        (moduleIn : S → Module) (imageWith : S → Module → List ℕ) (work : Module → Access)
+        → Keeps bytes (byAccess moduleIn imageWith known work bytes)
+    access-keeps moduleIn imageWith work =
+        state-keeps (λ s. settledAccess (imageWith s) (work (moduleIn s)) bytes)
+        (λ s. let a = work (moduleIn s) in settled-keeps (a .verdict) 0 (imageWith s (a .mssp)))
+
     pub state-keeps-lent :
         (buffer : List ℕ) (work : S → Lent) → ((s : S) → KeepsLent bytes buffer (work s))
         → KeepsLent bytes buffer (byState known (lent (noState bytes) buffer) work)
@@ -84,6 +93,15 @@ module _ {S : Type 0} (decode : List ℕ → Option S) where
         → Leaves decode (byState (decode bytes) (noState bytes) work)
     state-leaves work leaves =
         by-state (Leaves decode) (decode bytes) (noState bytes) work (refused-never-accepted NoState 0 bytes) leaves
+
+    -- An access, where the state with the module that it leaves has an image.
+    pub access-leaves :
+        (moduleIn : S → Module) (imageWith : S → Module → List ℕ) (work : Module → Access)
+        → ((s : S) → decode bytes ≡ some s → ImageOfSome decode (imageWith s (work (moduleIn s) .mssp)))
+        → Leaves decode (byAccess moduleIn imageWith (decode bytes) work bytes)
+    access-leaves moduleIn imageWith work image =
+        state-leaves (λ s. settledAccess (imageWith s) (work (moduleIn s)) bytes)
+        (λ s e. settled-leaves (work (moduleIn s) .verdict) 0 bytes (image s e))
 
     pub state-leaves-lent :
         (buffer : List ℕ) (work : S → Lent) → ((s : S) → decode bytes ≡ some s → Leaves decode (work s .outcome))

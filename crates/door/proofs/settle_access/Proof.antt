@@ -1,7 +1,8 @@
 -- `door::settle_access` meets its contract.
 use borrow.Author.Needs.{needs}
 use denote.Ref.{now}
-use Rattle.door.specs.Laws.{access-written}
+use Rattle.settling.specs.Laws.{access-written}
+use Rattle.door.specs.Door.{imageWith}
 use Rattle.door.proofs.settle_access.Statement.{statement}
 use Rattle.door.proofs.settle_access.Tie as tie
 
@@ -10,4 +11,4 @@ settle-access-spec =
     tie.close
     (tie.spec
     (λ c κs. search needs) (λ c. search needs) (λ c κs. search needs) (λ c. search needs)
-    (λ c. let a = c .before .before .before .before .before .before .before .before .before .args in access-written (now (a .state)) (a .access) (a .s) (c .before .before .before .before .before .encode .ensures) (c .before .before .settle .ensures)))
+    (λ c. let a = c .before .before .before .before .before .before .before .before .before .args in access-written (now (a .state)) (imageWith (a .s)) (a .access) (c .before .before .before .before .before .encode .ensures) (c .before .before .settle .ensures)))

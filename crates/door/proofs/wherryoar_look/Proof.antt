@@ -12,4 +12,4 @@ wherryoar-look-spec =
     (tie.spec
     (λ c κs. search needs) (λ c. search needs) (λ c κs. search needs) (λ c. search needs) (λ c κs. search needs)
     (λ c. no-image (c .before .before .before .decode .ensures) _ _ (ap stateIn (c .before .enum-told .given .1)) (c .no-view .ensures))
-    (λ c. of-state (c .before .before .before .before .decode .ensures) _ _ (ap stateIn (c .before .before .s .given .1)) (c .draw .ensures)))
+    (λ c. of-state (c .before .before .before .before .decode .ensures) _ _ (ap stateIn (c .before .before .s .given .1)) (cc)))

@@ -4,17 +4,19 @@ use mathlib.Core.Path.{ap}
 use denote.Ref.{now}
 use Rattle.registers.specs.Values.{readOf}
 use Rattle.image.specs.Image.{stateIn}
-use Rattle.settling.specs.Laws.{no-image}
-use Rattle.door.specs.Laws.{access-settled}
+use Rattle.image.specs.Theorems.{image-length}
+use Rattle.settling.specs.Laws.{no-image, access-settled}
+use Rattle.door.specs.Door.{moduleIn, imageWith}
 use Rattle.door.proofs.wherryoar_read.Statement.{statement}
 use Rattle.door.proofs.wherryoar_read.Tie as tie
 
 what-the-read-leaves : tie.Need-returns-2
 what-the-read-leaves c =
     let read = c .before .before .before in
-    let decode = read .before .before .before .before .before in
-    let a = decode .before .before .before .args in
-    access-settled (now (a .state)) (λ m. readOf m (a .number)) (decode .decode .ensures) (read .before .before .before .s .given .1) (read .read .ensures) (c .before .before .settle-access .ensures)
+    let decoded = read .before .before .before .before .before .decode .ensures in
+    let is = read .before .before .before .s .given .1 in
+    let a = read .before .before .before .before .before .before .before .before .args in
+    access-settled (now (a .state)) moduleIn imageWith (λ m. readOf m (a .number)) decoded (ap stateIn is) (image-length (now (a .state)) _ decoded is) (read .read .ensures) (c .before .before .settle-access .ensures)
 
 pub wherryoar-read-spec : {M : Type 1} → statement M
 wherryoar-read-spec =

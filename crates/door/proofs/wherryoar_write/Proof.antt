@@ -4,17 +4,19 @@ use mathlib.Core.Path.{ap}
 use denote.Ref.{now}
 use Rattle.writes.specs.Writes.{writeOf}
 use Rattle.image.specs.Image.{stateIn}
-use Rattle.settling.specs.Laws.{no-image}
-use Rattle.door.specs.Laws.{access-settled}
+use Rattle.image.specs.Theorems.{image-length}
+use Rattle.settling.specs.Laws.{no-image, access-settled}
+use Rattle.door.specs.Door.{moduleIn, imageWith}
 use Rattle.door.proofs.wherryoar_write.Statement.{statement}
 use Rattle.door.proofs.wherryoar_write.Tie as tie
 
 what-the-write-leaves : tie.Need-returns-2
 what-the-write-leaves c =
     let write = c .before .before .before in
-    let decode = write .before .before .before .before .before in
-    let a = decode .before .before .before .args in
-    access-settled (now (a .state)) (λ m. writeOf m (a .number) (a .value)) (decode .decode .ensures) (write .before .before .before .s .given .1) (write .write .ensures) (c .before .before .settle-access .ensures)
+    let decoded = write .before .before .before .before .before .decode .ensures in
+    let is = write .before .before .before .s .given .1 in
+    let a = write .before .before .before .before .before .before .before .before .args in
+    access-settled (now (a .state)) moduleIn imageWith (λ m. writeOf m (a .number) (a .value)) decoded (ap stateIn is) (image-length (now (a .state)) _ decoded is) (write .write .ensures) (c .before .before .settle-access .ensures)
 
 pub wherryoar-write-spec : {M : Type 1} → statement M
 wherryoar-write-spec =
