@@ -29,7 +29,7 @@ use Rattle.image.specs.Image.{imageLength, validState, encodeOf}
 use Rattle.settling.specs.declared.Answer.{Answer}
 use Rattle.settling.specs.Outcome.{Lent, outcome, lent, done, refused}
 use Rattle.firmware_calls.specs.Calls.{doorSetup, doorCall, doorRun}
-use Rattle.door.specs.Door.{doorRead, doorWrite, doorSample}
+use Rattle.module_calls.specs.Calls.{doorRead, doorWrite, doorSample}
 
 -- ---- a host's calls, over the bytes of one state and one buffer
 pub data DoorCall : Type 0 where

@@ -50,9 +50,10 @@ use Rattle.settling.specs.Outcome.{refused, byState}
 use Rattle.settling.specs.Theorems.{one-lent}
 use Rattle.firmware_calls.specs.Calls.{setupIf}
 use Rattle.firmware_calls.specs.Theorems.{setup-keeps, call-keeps, run-keeps}
+use Rattle.module_calls.specs.Calls.{doorLook}
+use Rattle.module_calls.specs.Theorems.{read-keeps, write-keeps, sample-keeps}
 use Rattle.door.specs.declared.Part.{Part as Parted}
-use Rattle.door.specs.Door.{doorLook, doorFind}
-use Rattle.door.specs.Theorems.{read-keeps, write-keeps, sample-keeps}
+use Rattle.door.specs.Door.{doorFind}
 use Rattle.demands.specs.Calls.{DoorCall, setUp, readRegister, writeRegister, feedSample, callHandler, runTrace, Host, host, reply, atDoor, told, inWindow, hasWindow, byDefinition, ImageOf, ImageOfNone, SetsReserved, SetsNoMode, SetUpFor, FitsNot, SomeAbove, Cause, _when_, causes, lookCauses, findCauses, Numbered, FirstAbove, OnlyBeside, Beside}
 use Rattle.demands.specs.Demands.{OneOutcome, RefusedKeeps, OutsideKept, ExactCauses, ItemBeside, DemandOne}
 use Rattle.demands.specs.DemandTwo.{image-or-none, by-image}

@@ -40,7 +40,7 @@ use Rattle.settling.specs.Left.{ImageOfSome}
 use Rattle.settling.specs.Theorems.{stays}
 use Rattle.firmware_calls.specs.Calls.{setupIf, doorSetup, settledCall, settledRun}
 use Rattle.firmware_calls.specs.Theorems.{setup-keeps}
-use Rattle.door.specs.Door.{moduleIn, imageWith, levelVerdict}
+use Rattle.module_calls.specs.Calls.{moduleIn, imageWith, levelVerdict}
 use Rattle.doorkept.specs.Image.{setup-leaves, read-stays, write-stays, sample-stays, call-stays, run-stays}
 use Rattle.demands.specs.Calls.{DoorCall, setUp, readRegister, writeRegister, feedSample, callHandler, runTrace, Host, host, Reply, reply, answers, leftAfter, atDoor, told, inWindow, madeOf, byDefinition, ImageOf, ImageOfNone}
 use Rattle.demands.specs.Demands.{DemandTwo}

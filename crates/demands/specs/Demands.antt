@@ -15,8 +15,9 @@ use Rattle.image.specs.Image.{imageLength}
 use Rattle.view.specs.View.{viewOf}
 use Rattle.settling.specs.declared.Answer.{Answer}
 use Rattle.settling.specs.Outcome.{done}
+use Rattle.module_calls.specs.Calls.{doorLook}
 use Rattle.door.specs.declared.Part.{Part}
-use Rattle.door.specs.Door.{doorLook, doorFind}
+use Rattle.door.specs.Door.{doorFind}
 use Rattle.demands.specs.Calls.{DoorCall, setUp, readRegister, callHandler, runTrace, Host, answers, leftAfter, Allows, atDoor, byDefinition, ImageOf, causes, lookCauses, findCauses, Exactly, FirstAbove, OnlyBeside, Beside, AllItems, Feeds, firmware}
 
 -- ---- DEMAND 1: every call has one outcome, changes only what it may, and refuses by number, exactly for the causes of the table

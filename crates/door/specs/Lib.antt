@@ -1,3 +1,1 @@
 pub mod Door
-pub mod Laws
-pub mod Theorems

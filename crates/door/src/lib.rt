@@ -1,14 +1,10 @@
 // The C door: every function that C calls. A state is 48 lent bytes, an answer is numbers. Refusals are looked at in the
 // paper's order, and a refused call changes no byte.
 ghost use mathlib.Core.Path.{_≡_};
-ghost use Rattle.settling.specs.Outcome.{outcome, lent, imageOver, settledAccess};
+ghost use Rattle.settling.specs.Outcome.{outcome, lent};
 ghost use Rattle.firmware_calls.specs.Calls.{doorSetup, doorCall, doorRun};
-ghost use Rattle.door.specs.Door.{imageWith, doorRead, doorWrite, doorSample, doorLook, doorFind};
-use firmware::State;
-use image::Decoded;
-use refusals::Refusal;
-use refusals::Verdict;
-use registers::Access;
+ghost use Rattle.module_calls.specs.Calls.{doorRead, doorWrite, doorSample, doorLook};
+ghost use Rattle.door.specs.Door.{doorFind};
 use settling::Answer;
 use view::View;
 
@@ -19,16 +15,6 @@ pub struct Part {
     pub item: u64,
     pub start: u64,
     pub length: u64,
-}
-
-// A register access reaches the module alone.
-fn settle_access(state: &mut [u8], access: Access, s: State) -> Answer
-    ensures { λ r. ⌜ outcome r (now (state .exit)) ≡ settledAccess (λ m. imageOver (imageWith s m) (now (state .entry))) access (now (state .entry)) ⌝ }
-{
-    let verdict = access.verdict;
-    let left = access.mssp;
-    let image = image::encode(State { mssp: left, ..s });
-    settling::settle(state, verdict, 0, &image)
 }
 
 // Makes a state and writes its image. Refuses with 6 (not 48 bytes), 5 (n outside 1 to 256).
@@ -44,10 +30,7 @@ pub extern "C" fn wherryoar_setup(state: &mut [u8], add: u8, n: u64) -> Answer
 pub extern "C" fn wherryoar_read(state: &mut [u8], number: u32) -> Answer
     ensures { λ r. ⌜ outcome r (now (state .exit)) ≡ doorRead (now (state .entry)) number ⌝ }
 {
-    match image::decode(state) {
-        Decoded::NoImage => settling::no_state(),
-        Decoded::Image(s) => settle_access(state, registers::read(s.mssp, number), s),
-    }
+    module_calls::read(state, number)
 }
 
 // Writes a register. Refuses with 6, 1, 2, 3.
@@ -55,10 +38,7 @@ pub extern "C" fn wherryoar_read(state: &mut [u8], number: u32) -> Answer
 pub extern "C" fn wherryoar_write(state: &mut [u8], number: u32, value: u8) -> Answer
     ensures { λ r. ⌜ outcome r (now (state .exit)) ≡ doorWrite (now (state .entry)) number value ⌝ }
 {
-    match image::decode(state) {
-        Decoded::NoImage => settling::no_state(),
-        Decoded::Image(s) => settle_access(state, writes::write(s.mssp, number, value), s),
-    }
+    module_calls::write(state, number, value)
 }
 
 // Feeds one sample. Refuses with 6, 4 (a level above 3).
@@ -66,17 +46,7 @@ pub extern "C" fn wherryoar_write(state: &mut [u8], number: u32, value: u8) -> A
 pub extern "C" fn wherryoar_sample(state: &mut [u8], level: u32) -> Answer
     ensures { λ r. ⌜ outcome r (now (state .exit)) ≡ doorSample (now (state .entry)) level ⌝ }
 {
-    match image::decode(state) {
-        Decoded::NoImage => settling::no_state(),
-        Decoded::Image(s) => {
-            if level > 3 {
-                return settling::refuse(Refusal::NoItem, 0);
-            }
-            let next = trace::sample(s, level as u8);
-            let image = image::encode(next);
-            settling::settle(state, Verdict::Done(0), 0, &image)
-        }
-    }
+    module_calls::sample(state, level)
 }
 
 // Calls the handler over a window of the caller's buffer. Refuses with 6, 5.
@@ -106,10 +76,7 @@ pub extern "C" fn wherryoar_run(
 pub extern "C" fn wherryoar_look(state: &[u8]) -> View
     ensures { λ r. ⌜ r ≡ doorLook (now (state .entry)) ⌝ }
 {
-    match image::decode(state) {
-        Decoded::NoImage => view::no_view(),
-        Decoded::Image(s) => view::draw(s),
-    }
+    module_calls::look(state)
 }
 
 // Finds the message that an item of a wire record lies in. Refuses with 4 (a level above 3), 7 (no such item).

@@ -36,8 +36,8 @@ use Rattle.settling.specs.Left.{ImageOfSome, Leaves}
 use Rattle.settling.specs.Theorems.{refused-never-accepted, settled-leaves, state-leaves, access-leaves, state-leaves-lent, stays}
 use Rattle.firmware_calls.specs.Calls.{setupIf, doorSetup, settledCall, doorCall, settledRun, doorRun}
 use Rattle.firmware_calls.specs.Theorems.{call-keeps, run-keeps}
-use Rattle.door.specs.Door.{moduleIn, imageWith, doorRead, doorWrite, levelVerdict, doorSample}
-use Rattle.door.specs.Theorems.{read-keeps, write-keeps, sample-keeps}
+use Rattle.module_calls.specs.Calls.{moduleIn, imageWith, doorRead, doorWrite, levelVerdict, doorSample}
+use Rattle.module_calls.specs.Theorems.{read-keeps, write-keeps, sample-keeps}
 
 -- ---- a state by its clauses, and by the test that decoding makes
 handler-clauses : (h : Handler) → T (handlerValid h) → ValidHandler h

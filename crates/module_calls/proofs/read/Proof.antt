@@ -1,4 +1,4 @@
--- `door::wherryoar_read` meets its contract.
+-- `module_calls::read` meets its contract.
 use borrow.Author.Needs.{needs}
 use mathlib.Core.Path.{ap}
 use denote.Ref.{now}
@@ -6,9 +6,9 @@ use Rattle.registers.specs.Values.{readOf}
 use Rattle.image.specs.Image.{stateIn}
 use Rattle.image.specs.Theorems.{image-length}
 use Rattle.settling.specs.Laws.{no-image, access-settled}
-use Rattle.door.specs.Door.{moduleIn, imageWith}
-use Rattle.door.proofs.wherryoar_read.Statement.{statement}
-use Rattle.door.proofs.wherryoar_read.Tie as tie
+use Rattle.module_calls.specs.Calls.{moduleIn, imageWith}
+use Rattle.module_calls.proofs.read.Statement.{statement}
+use Rattle.module_calls.proofs.read.Tie as tie
 
 what-the-read-leaves : tie.Need-returns-2
 what-the-read-leaves c =
@@ -18,8 +18,8 @@ what-the-read-leaves c =
     let a = read .before .before .before .before .before .before .before .before .args in
     access-settled (now (a .state)) moduleIn imageWith (λ m. readOf m (a .number)) decoded (ap stateIn is) (image-length (now (a .state)) _ decoded is) (read .read .ensures) (c .before .before .settle-access .ensures)
 
-pub wherryoar-read-spec : {M : Type 1} → statement M
-wherryoar-read-spec =
+pub read-spec : {M : Type 1} → statement M
+read-spec =
     tie.close
     (tie.spec
     (λ c κs. search needs) (λ c. search needs) (λ c κs. search needs) (λ c. search needs) (λ c κs. search needs)

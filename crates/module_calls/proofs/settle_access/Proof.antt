@@ -1,10 +1,10 @@
--- `door::settle_access` meets its contract.
+-- `module_calls::settle_access` meets its contract.
 use borrow.Author.Needs.{needs}
 use denote.Ref.{now}
 use Rattle.settling.specs.Laws.{access-written}
-use Rattle.door.specs.Door.{imageWith}
-use Rattle.door.proofs.settle_access.Statement.{statement}
-use Rattle.door.proofs.settle_access.Tie as tie
+use Rattle.module_calls.specs.Calls.{imageWith}
+use Rattle.module_calls.proofs.settle_access.Statement.{statement}
+use Rattle.module_calls.proofs.settle_access.Tie as tie
 
 pub settle-access-spec : {M : Type 1} → statement M
 settle-access-spec =

@@ -1,5 +1,4 @@
--- What the door promises beside its contracts (01, "Calls, refusals and their order"): a refused call leaves the state's bytes. What
--- is common to every call stands in `settling`, what the handler's own calls promise in `firmware_calls`.
+-- What these calls promise beside their contracts (01, "Calls, refusals and their order"): a refused one leaves the state's bytes.
 use Prim.Native.Nat.{ℕ}
 use mathlib.Core.List.{List}
 use Rattle.registers.specs.Values.{readOf}
@@ -8,7 +7,7 @@ use Rattle.trace.specs.Run.{sampledBy}
 use Rattle.image.specs.Image.{encodeOf, decodeOf}
 use Rattle.settling.specs.Outcome.{settled, Keeps}
 use Rattle.settling.specs.Theorems.{settled-keeps, state-keeps, access-keeps}
-use Rattle.door.specs.Door.{moduleIn, imageWith, doorRead, doorWrite, levelVerdict, doorSample}
+use Rattle.module_calls.specs.Calls.{moduleIn, imageWith, doorRead, doorWrite, levelVerdict, doorSample}
 
 module _ (bytes : List ℕ) where
   pub read-keeps : (number : ℕ) → Keeps bytes (doorRead bytes number)

@@ -1,13 +1,13 @@
--- `door::wherryoar_look` meets its contract.
+-- `module_calls::look` meets its contract.
 use borrow.Author.Needs.{needs}
 use mathlib.Core.Path.{ap}
 use Rattle.image.specs.Image.{stateIn}
 use Rattle.settling.specs.Laws.{no-image, of-state}
-use Rattle.door.proofs.wherryoar_look.Statement.{statement}
-use Rattle.door.proofs.wherryoar_look.Tie as tie
+use Rattle.module_calls.proofs.look.Statement.{statement}
+use Rattle.module_calls.proofs.look.Tie as tie
 
-pub wherryoar-look-spec : {M : Type 1} → statement M
-wherryoar-look-spec =
+pub look-spec : {M : Type 1} → statement M
+look-spec =
     tie.close
     (tie.spec
     (λ c κs. search needs) (λ c. search needs) (λ c κs. search needs) (λ c. search needs) (λ c κs. search needs)

@@ -1,12 +1,12 @@
--- `door::wherryoar_sample` meets its contract.
+-- `module_calls::sample` meets its contract.
 use borrow.Author.Needs.{needs}
 use mathlib.Core.Path.{ap}
 use Rattle.image.specs.Image.{stateIn}
 use Rattle.image.specs.Theorems.{image-length}
 use Rattle.settling.specs.Laws.{no-image, of-state}
-use Rattle.door.specs.Laws.{level-refused, level-settled}
-use Rattle.door.proofs.wherryoar_sample.Statement.{statement}
-use Rattle.door.proofs.wherryoar_sample.Tie as tie
+use Rattle.module_calls.specs.Laws.{level-refused, level-settled}
+use Rattle.module_calls.proofs.sample.Statement.{statement}
+use Rattle.module_calls.proofs.sample.Tie as tie
 
 what-the-sample-leaves : tie.Need-returns-3
 what-the-sample-leaves c =
@@ -15,8 +15,8 @@ what-the-sample-leaves c =
     let decoded = sample .before .before .before .before .before .decode .ensures in
     of-state decoded _ _ (ap stateIn is) (level-settled _ _ (sample .before .if1 .left) (image-length _ _ decoded is) (sample .sample .ensures) (c .before .before .before .before .before .encode .ensures) (c .before .before .settle .ensures))
 
-pub wherryoar-sample-spec : {M : Type 1} → statement M
-wherryoar-sample-spec =
+pub sample-spec : {M : Type 1} → statement M
+sample-spec =
     tie.close
     (tie.spec
     (λ c κs. search needs) (λ c. search needs) (λ c κs. search needs) (λ c. search needs) (λ c κs. search needs)

@@ -1,4 +1,4 @@
--- `door::wherryoar_write` meets its contract.
+-- `module_calls::write` meets its contract.
 use borrow.Author.Needs.{needs}
 use mathlib.Core.Path.{ap}
 use denote.Ref.{now}
@@ -6,9 +6,9 @@ use Rattle.writes.specs.Writes.{writeOf}
 use Rattle.image.specs.Image.{stateIn}
 use Rattle.image.specs.Theorems.{image-length}
 use Rattle.settling.specs.Laws.{no-image, access-settled}
-use Rattle.door.specs.Door.{moduleIn, imageWith}
-use Rattle.door.proofs.wherryoar_write.Statement.{statement}
-use Rattle.door.proofs.wherryoar_write.Tie as tie
+use Rattle.module_calls.specs.Calls.{moduleIn, imageWith}
+use Rattle.module_calls.proofs.write.Statement.{statement}
+use Rattle.module_calls.proofs.write.Tie as tie
 
 what-the-write-leaves : tie.Need-returns-2
 what-the-write-leaves c =
@@ -18,8 +18,8 @@ what-the-write-leaves c =
     let a = write .before .before .before .before .before .before .before .before .args in
     access-settled (now (a .state)) moduleIn imageWith (λ m. writeOf m (a .number) (a .value)) decoded (ap stateIn is) (image-length (now (a .state)) _ decoded is) (write .write .ensures) (c .before .before .settle-access .ensures)
 
-pub wherryoar-write-spec : {M : Type 1} → statement M
-wherryoar-write-spec =
+pub write-spec : {M : Type 1} → statement M
+write-spec =
     tie.close
     (tie.spec
     (λ c κs. search needs) (λ c. search needs) (λ c κs. search needs) (λ c. search needs) (λ c κs. search needs)

@@ -1,4 +1,4 @@
--- What the door's code knows on each way of a sample, and what follows.
+-- What the code of a sample knows on each way, and what follows.
 use Prim.Native.Nat.{ℕ, _<_, _≤_}
 use mathlib.Core.Path.{_≡_, ap, _∙_}
 use mathlib.Core.List.{List}
@@ -11,7 +11,7 @@ use Rattle.image.specs.Image.{encodeOf}
 use Rattle.settling.specs.declared.Answer.{Answer}
 use Rattle.settling.specs.Outcome.{Outcome, outcome, refused, imageOver, settled}
 use Rattle.settling.specs.Laws.{settled-whole}
-use Rattle.door.specs.Door.{levelVerdict}
+use Rattle.module_calls.specs.Calls.{levelVerdict}
 
 module _ (bytes : List ℕ) where
   pub level-refused :
