@@ -1,13 +1,15 @@
 -- What every codec promises whose encoding parses back: a valid state's encoding is an image, an image is the encoding of the
--- one valid state that it names, and each state has one.
+-- one valid state that it decodes to, each state has one, and other bytes decode to none.
 use Prim.Native.Nat.{ℕ}
+use mathlib.Core.Logic.{_↔_}
 use mathlib.Core.Path.{_≡_, refl, sym, ap, _∙_}
-use mathlib.Core.Bool.{Bool, true, false, _&&_}
+use mathlib.Core.Bool.{Bool, true, false, cond, _&&_}
 use mathlib.Core.List.{List, [], _∷_}
+use mathlib.Core.Option.{Option, none, some, Option·some-injective, Option·none-ne-some}
 use mir.Facts.{and-yes}
 use lib.Dec.{T, eqb, eqb→eq}
 use borrow.Author.Tests.{eq-eqb}
-use Rattle.codec.specs.Codec.{sameBytes, isImage}
+use Rattle.codec.specs.Codec.{sameBytes, isImage, decodedBy}
 
 -- ---- equal bytes
 pub same-refl : (xs : List ℕ) → sameBytes xs xs ≡ true
@@ -26,6 +28,11 @@ pub so : (t : Bool) → T t → t ≡ true
 so true h = refl
 so false h = absurd h
 
+-- What was picked, it was picked for.
+picked : {S : Type 0} {s t : S} (found : Bool) → cond found (some s) none ≡ some t → T found × (s ≡ t)
+picked {s = s} {t = t} true e = (tt, Option·some-injective s t e)
+picked {t = t} false e = absurd (Option·none-ne-some t e)
+
 module _ {S : Type 0} (encode : S → List ℕ) (parse : List ℕ → S) (valid : S → Bool) (back : (s : S) → parse (encode s) ≡ s) where
   -- Every valid state's encoding is an image.
   pub encoded-is : (s : S) → T (valid s) → isImage encode parse valid (encode s) ≡ true
@@ -41,3 +48,29 @@ module _ {S : Type 0} (encode : S → List ℕ) (parse : List ℕ → S) (valid 
   -- Two states with one encoding are one state.
   pub encode-apart : (s t : S) → encode s ≡ encode t → s ≡ t
   encode-apart s t e = sym (back s) ∙ ap parse e ∙ back t
+
+  abbrev decode : List ℕ → Option S
+  decode = decodedBy encode parse valid
+
+  -- A valid state comes back from its encoding.
+  pub encoded-back : (s : S) → T (valid s) → decode (encode s) ≡ some s
+  encoded-back s v = rw (encoded-is s v, back s)
+
+  -- What bytes decode to is valid, and they are its image.
+  pub decoded-both : (bytes : List ℕ) (s : S) → decode bytes ≡ some s → (encode s ≡ bytes) × T (valid s)
+  decoded-both bytes s e =
+      let found = picked (isImage encode parse valid bytes) e in
+      let named = image-names bytes (found .0) in
+      (ap encode (sym (found .1)) ∙ named .0, rw (found .1) at (named .1))
+
+  -- Both ways at once.
+  pub decoded-exactly : (bytes : List ℕ) (s : S) → (decode bytes ≡ some s) ↔ ((encode s ≡ bytes) × T (valid s))
+  decoded-exactly bytes s = (decoded-both bytes s, λ h. rw (h .0) at (encoded-back s (h .1)))
+
+  -- Bytes that are the image of no valid state decode to none, of whatever length they are.
+  pub decoded-other : (bytes : List ℕ) → ((s : S) → T (valid s) → encode s ≡ bytes → ⊥) → decode bytes ≡ none
+  decoded-other bytes nobody = none-or (decode bytes) refl
+    where
+      none-or : (found : Option S) → decode bytes ≡ found → found ≡ none
+      none-or none e = refl
+      none-or (some s) e = let both = decoded-both bytes s e in absurd (nobody s (both .1) (both .0))

@@ -27,9 +27,10 @@ use Rattle.steps.specs.declared.Item.the-variants.{Call, Read, Write}
 use Rattle.steps.specs.Step.{Stepped, stepOf, afterAll}
 use Rattle.trace.specs.Run.{firstBad, itemIf, itemAt}
 use Rattle.image.specs.Image.{imageLength, validState, encodeOf}
-use Rattle.door.specs.declared.Answer.{Answer}
-use Rattle.door.specs.Outcome.{Lent, outcome, lent, done, refused}
-use Rattle.door.specs.Door.{doorSetup, doorRead, doorWrite, doorSample, doorCall, doorRun}
+use Rattle.settling.specs.declared.Answer.{Answer}
+use Rattle.settling.specs.Outcome.{Lent, outcome, lent, done, refused}
+use Rattle.firmware_calls.specs.Calls.{doorSetup, doorCall, doorRun}
+use Rattle.module_calls.specs.Calls.{doorRead, doorWrite, doorSample}
 
 -- ---- a host's calls, over the bytes of one state and one buffer
 pub data DoorCall : Type 0 where

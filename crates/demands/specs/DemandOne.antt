@@ -4,6 +4,7 @@ use mathlib.Core.Logic.{_⊎_, inl, inr, ⊎-elim, _↔_}
 use mathlib.Core.Path.{_≡_, refl, sym, ap, ap₂, subst, _∙_}
 use mathlib.Core.Bool.{Bool, true, false, true≢false, cond, _&&_, not, and-false}
 use mathlib.Core.List.{List, [], _∷_, map}
+use mathlib.Core.Option.{none as absent}
 use native.Mathlib.Omega.{arith}
 use native.Mathlib.Nat.{div-one, div-div-eq-div-mul}
 use lib.Dec.{eqb, leb, ltb}
@@ -42,14 +43,17 @@ use Rattle.finder.specs.declared.Whereabouts.{Whereabouts}
 use Rattle.finder.specs.declared.Whereabouts.the-variants.{Outside, Inside}
 use Rattle.finder.specs.Messages.{liesAt, endAt}
 use Rattle.finder.specs.Find.{firstBadLevel, partFrom, spanIf, spanOf}
-use Rattle.image.specs.declared.Decoded.the-variants.{NoImage}
 use Rattle.image.specs.Image.{imageLength, decodeOf}
 use Rattle.image.specs.Theorems.{encode-injective}
-use Rattle.door.specs.declared.Answer.{Answer}
+use Rattle.settling.specs.declared.Answer.{Answer}
+use Rattle.settling.specs.Outcome.{refused, byState}
+use Rattle.settling.specs.Theorems.{one-lent}
+use Rattle.firmware_calls.specs.Calls.{setupIf}
+use Rattle.firmware_calls.specs.Theorems.{setup-keeps, call-keeps, run-keeps}
+use Rattle.module_calls.specs.Calls.{doorLook}
+use Rattle.module_calls.specs.Theorems.{read-keeps, write-keeps, sample-keeps}
 use Rattle.door.specs.declared.Part.{Part as Parted}
-use Rattle.door.specs.Outcome.{refused, byState}
-use Rattle.door.specs.Door.{setupIf, doorLook, doorFind}
-use Rattle.door.specs.Theorems.{one-lent, setup-keeps, read-keeps, write-keeps, sample-keeps, call-keeps, run-keeps}
+use Rattle.door.specs.Door.{doorFind}
 use Rattle.demands.specs.Calls.{DoorCall, setUp, readRegister, writeRegister, feedSample, callHandler, runTrace, Host, host, reply, atDoor, told, inWindow, hasWindow, byDefinition, ImageOf, ImageOfNone, SetsReserved, SetsNoMode, SetUpFor, FitsNot, SomeAbove, Cause, _when_, causes, lookCauses, findCauses, Numbered, OnlyBeside, Beside}
 use Rattle.demands.specs.Demands.{OneOutcome, RefusedKeeps, OutsideKept, ExactCauses, ItemBeside, DemandOne}
 use Rattle.demands.specs.DemandTwo.{image-or-none, by-image}
@@ -314,7 +318,7 @@ module _ (h : Host) where
 
   -- 6 where there is no state, else what is looked at on the state.
   on-image :
-      {rest : List Cause} (c : DoorCall) → (decodeOf (h .state) ≡ NoImage → atDoor h c ≡ reply (refused NoState 0) h)
+      {rest : List Cause} (c : DoorCall) → (decodeOf (h .state) ≡ absent → atDoor h c ≡ reply (refused NoState 0) h)
       → ((s : State) → ImageOf s (h .state)
       → let answer : Answer = byDefinition (served s (h .buffer)) c .answer in FirstOf (Beside c) rest (answer .refusal) (answer .item))
       → FirstOf (Beside c) ((NoState when ImageOfNone (h .state)) ∷ rest) (atDoor h c .answer .refusal) (atDoor h c .answer .item)

@@ -26,12 +26,12 @@ use Rattle.trace.specs.Theorems.{run-joined, run-length, window-length, splice-
 use Rattle.agreement.specs.Joint.{Joint, run, afresh, SamplesAndCalls, ended, sample, call as call-more, Agrees}
 use Rattle.agreement.specs.Record.{joint-run-is-the-run}
 use Rattle.agreement.specs.Demand.{demand-three}
-use Rattle.image.specs.Image.{imageLength, validState, encodeOf}
+use Rattle.image.specs.Image.{imageLength, validState, encodeOf, decodeOf}
 use Rattle.view.specs.View.{viewOf, noView}
-use Rattle.door.specs.declared.Answer.{Answer}
-use Rattle.door.specs.Door.{setupIf, doorSetup}
-use Rattle.door.specs.Outcome.{Outcome, outcome, byState, done}
-use Rattle.doorkept.specs.Left.{Image}
+use Rattle.settling.specs.declared.Answer.{Answer}
+use Rattle.settling.specs.Outcome.{Outcome, outcome, byState, done}
+use Rattle.settling.specs.Left.{ImageOfSome}
+use Rattle.firmware_calls.specs.Calls.{setupIf, doorSetup}
 use Rattle.doorkept.specs.Image.{setup-leaves}
 use Rattle.demands.specs.Calls.{DoorCall, setUp, readRegister, runTrace, Host, host, Reply, reply, answers, leftAfter, atDoor, hasWindow, inWindow, byDefinition, AllItems, Asks, a-run, a-sample, a-call, Feeds, nothing, one-more}
 use Rattle.demands.specs.Demands.{SetupRegisters, RunIsCalls, DemandThree}
@@ -55,7 +55,7 @@ module _ (bytes : List ℕ) (add n : ℕ) where
     setup-made = made-if (eqb (length bytes) imageLength) (isWindowLength n) e
 
     setup-valid : T (validState (madeFor add n))
-    setup-valid = image-is (madeFor add n) (subst (λ (o : Outcome). Image (o .state)) setup-made (setup-leaves bytes add n e))
+    setup-valid = image-is (madeFor add n) (subst (λ (o : Outcome). ImageOfSome decodeOf (o .state)) setup-made (setup-leaves bytes add n e))
 
 pub setup-registers : SetupRegisters
 setup-registers h add n e =

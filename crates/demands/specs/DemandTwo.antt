@@ -4,6 +4,7 @@ use mathlib.Core.Logic.{_⊎_, inl, inr, ⊎-elim}
 use mathlib.Core.Path.{_≡_, refl, sym, ap, subst, _∙_}
 use mathlib.Core.Bool.{Bool, true, false}
 use mathlib.Core.List.{List, [], _∷_, map}
+use mathlib.Core.Option.{Option, none, some, Option·none-ne-some}
 use native.Mathlib.Omega.{arith}
 use lib.Dec.{T, ltb}
 use lib.ListN.{length}
@@ -29,18 +30,18 @@ use Rattle.steps.specs.declared.Item.the-variants.{Call}
 use Rattle.steps.specs.Step.{afterAll}
 use Rattle.trace.specs.Run.{firstBad, sampledBy, itemAt}
 use Rattle.trace.specs.Window.{runInOf, runChoice}
-use Rattle.image.specs.declared.Decoded.{Decoded}
-use Rattle.image.specs.declared.Decoded.the-variants.{Valid, NoImage}
 use Rattle.image.specs.Image.{imageLength, validState, encodeOf, decodeOf}
 use Rattle.image.specs.Laws.{encode-length}
 use Rattle.image.specs.Theorems.{decode-encode, decode-exactly, encode-injective}
 use Rattle.view.specs.View.{viewOf, noView}
-use Rattle.door.specs.declared.Answer.{Answer}
-use Rattle.door.specs.Outcome.{Outcome, Lent, lent, refused, settled, noState, byState}
-use Rattle.door.specs.Door.{setupIf, doorSetup, settledAccess, levelVerdict, settledCall, settledRun}
-use Rattle.door.specs.Theorems.{setup-keeps}
-use Rattle.doorkept.specs.Left.{Image}
-use Rattle.doorkept.specs.Image.{setup-leaves, stays, read-stays, write-stays, sample-stays, call-stays, run-stays}
+use Rattle.settling.specs.declared.Answer.{Answer}
+use Rattle.settling.specs.Outcome.{Outcome, Lent, lent, refused, settled, settledAccess, noState, byState, byAccess}
+use Rattle.settling.specs.Left.{ImageOfSome}
+use Rattle.settling.specs.Theorems.{stays}
+use Rattle.firmware_calls.specs.Calls.{setupIf, doorSetup, settledCall, settledRun}
+use Rattle.firmware_calls.specs.Theorems.{setup-keeps}
+use Rattle.module_calls.specs.Calls.{moduleIn, imageWith, levelVerdict}
+use Rattle.doorkept.specs.Image.{setup-leaves, read-stays, write-stays, sample-stays, call-stays, run-stays}
 use Rattle.demands.specs.Calls.{DoorCall, setUp, readRegister, writeRegister, feedSample, callHandler, runTrace, Host, host, Reply, reply, answers, leftAfter, atDoor, told, inWindow, madeOf, byDefinition, ImageOf, ImageOfNone}
 use Rattle.demands.specs.Demands.{DemandTwo}
 
@@ -52,15 +53,16 @@ abbrev pub imageReply : Reply Served → Reply Host
 imageReply r = reply (r .answer) (imageHost (r .left))
 
 -- An image that is a state's bytes is that state's.
-pub image-is : (s : State) → Image (encodeOf s) → T (validState s)
+pub image-is : (s : State) → ImageOfSome decodeOf (encodeOf s) → T (validState s)
 image-is s image =
     let is : ImageOf (image .of) (encodeOf s) = decode-exactly (encodeOf s) (image .of) .0 (image .decodes) in
     rw (encode-injective (image .of) s (is .0)) at (is .1)
 
 -- A call works on the state whose image it is given.
-pub on-state : {A : Type 0} (none : A) (work : State → A) (s : State) → T (validState s) → byState (decodeOf (encodeOf s)) none work ≡ work s
+pub on-state :
+    {A : Type 0} (nothing : A) (work : State → A) (s : State) → T (validState s) → byState (decodeOf (encodeOf s)) nothing work ≡ work s
 unfolding byState
-on-state none work s v = rw (decode-encode s v)
+on-state nothing work s v = rw (decode-encode s v)
 
 -- ---- one call
 -- A read that is refused leaves the module as it was.
@@ -91,7 +93,7 @@ module _ (w : Served) where
   -- Done, the bytes are the image of the next state; refused, that of the same.
   settles :
       (v : Verdict) (next : State) → (accepted v ≡ false → next ≡ s)
-      → unlent (w .bytes) (settled v 0 next bytes) ≡ imageReply (reply (told v) (served next (w .bytes)))
+      → unlent (w .bytes) (settled v 0 (encodeOf next) bytes) ≡ imageReply (reply (told v) (served next (w .bytes)))
   settles (Done value) next same = refl
   settles (Refused why) next same = rw (same refl)
 
@@ -100,7 +102,9 @@ module _ (w : Served) where
   made (NotMade why) = refl
 
   sampled :
-      (level : ℕ) → unlent (w .bytes) (settled (levelVerdict level) 0 (sampledBy s level) bytes) ≡ imageReply (byDefinition w (feedSample level))
+      (level : ℕ)
+      → unlent (w .bytes) (settled (levelVerdict level) 0 (encodeOf (sampledBy s level)) bytes)
+      ≡ imageReply (byDefinition w (feedSample level))
   sampled level =
       by-test (ltb 3 level) (λ t. let h = ltb-true 3 level t in rw (t, le-ltb level 4 h))
       (λ t. let h = ltb-false 3 level t in rw (t, lt-ltb level 4 (omega arith)))
@@ -121,10 +125,10 @@ module _ (w : Served) where
   module _ (v : T (validState s)) where
     accesses :
         (work : Module → Access) → (accepted (work (s .mssp) .verdict) ≡ false → work (s .mssp) .mssp ≡ s .mssp)
-        → unlent (w .bytes) (byState (decodeOf bytes) (noState bytes) (settledAccess work bytes))
+        → unlent (w .bytes) (byAccess moduleIn imageWith (decodeOf bytes) work bytes)
         ≡ imageReply (reply (told (work (s .mssp) .verdict)) (served (stateOf (work (s .mssp) .mssp) (s .handler)) (w .bytes)))
     accesses work same =
-        ap (unlent (w .bytes)) (on-state (noState bytes) (settledAccess work bytes) s v)
+        ap (unlent (w .bytes)) (on-state (noState bytes) (λ t. settledAccess (imageWith t) (work (t .mssp)) bytes) s v)
         ∙ settles (work (s .mssp) .verdict) (stateOf (work (s .mssp) .mssp) (s .handler))
         (λ e. ap (λ (m : Module). stateOf m (s .handler)) (same e))
 
@@ -135,7 +139,7 @@ module _ (w : Served) where
         accesses (λ m. readOf m number) (read-refused r (valueOf (s .mssp .config) (s .mssp .live) r) (s .mssp))
     one-call (writeRegister number value) = accesses (λ m. writeOf m number value) (refused-leaves number value (s .mssp))
     one-call (feedSample level) =
-        ap (unlent (w .bytes)) (on-state (noState bytes) (λ t. settled (levelVerdict level) 0 (sampledBy t level) bytes) s v)
+        ap (unlent (w .bytes)) (on-state (noState bytes) (λ t. settled (levelVerdict level) 0 (encodeOf (sampledBy t level)) bytes) s v)
         ∙ sampled level
     one-call (callHandler start n) =
         ap lends (on-state (lent (noState bytes) (w .bytes)) (λ t. settledCall bytes (callOf t (w .bytes) start n)) s v)
@@ -146,16 +150,16 @@ module _ (w : Served) where
 
 -- Bytes are no state's image, or that of one.
 pub image-or-none :
-    (bytes : List ℕ) → ((decodeOf bytes ≡ NoImage) × ImageOfNone bytes) ⊎ ((s : State) × (decodeOf bytes ≡ Valid s) × ImageOf s bytes)
+    (bytes : List ℕ) → ((decodeOf bytes ≡ none) × ImageOfNone bytes) ⊎ ((s : State) × (decodeOf bytes ≡ some s) × ImageOf s bytes)
 image-or-none bytes = by (decodeOf bytes) refl
   where
-    by : (d : Decoded) → decodeOf bytes ≡ d → ((decodeOf bytes ≡ NoImage) × ImageOfNone bytes) ⊎ ((s : State) × (decodeOf bytes ≡ Valid s) × ImageOf s bytes)
-    by NoImage e = inl (e, λ s image. let z : _≡_ {A = ℕ} 0 1 = cc (decode-exactly bytes s .1 image) in absurd (omega arith))
-    by (Valid s) e = inr (s, e, decode-exactly bytes s .0 e)
+    by : (found : Option State) → decodeOf bytes ≡ found → ((decodeOf bytes ≡ none) × ImageOfNone bytes) ⊎ ((s : State) × (decodeOf bytes ≡ some s) × ImageOf s bytes)
+    by none e = inl (e, λ s image. Option·none-ne-some s (sym e ∙ decode-exactly bytes s .1 image))
+    by (some s) e = inr (s, e, decode-exactly bytes s .0 e)
 
 -- What holds of a call that answers 6 where there is no state, and else works on the state whose image the bytes are.
 pub by-image {ℓ} :
-    (h : Host) (c : DoorCall) → (decodeOf (h .state) ≡ NoImage → atDoor h c ≡ reply (refused NoState 0) h) → (P : Reply Host → Type ℓ)
+    (h : Host) (c : DoorCall) → (decodeOf (h .state) ≡ none → atDoor h c ≡ reply (refused NoState 0) h) → (P : Reply Host → Type ℓ)
     → (ImageOfNone (h .state) → P (reply (refused NoState 0) h))
     → ((s : State) → ImageOf s (h .state) → P (imageReply (byDefinition (served s (h .buffer)) c))) → P (atDoor h c)
 by-image h c six P p q =
@@ -167,9 +171,9 @@ by-image h c six P p q =
     (image-or-none (h .state))
 
 -- ---- an image stays an image, so the next state is one
-image-stays : (h : Host) (c : DoorCall) → Image (h .state) → Image (atDoor h c .left .state)
+image-stays : (h : Host) (c : DoorCall) → ImageOfSome decodeOf (h .state) → ImageOfSome decodeOf (atDoor h c .left .state)
 image-stays h (setUp add n) image =
-    stays (doorSetup (h .state) add n) (setup-keeps (h .state) add n) (setup-leaves (h .state) add n) image
+    stays decodeOf (doorSetup (h .state) add n) (setup-keeps (h .state) add n) (setup-leaves (h .state) add n) image
 image-stays h (readRegister number) image = read-stays (h .state) image number
 image-stays h (writeRegister number value) image = write-stays (h .state) image number value
 image-stays h (feedSample level) image = sample-stays (h .state) image level
@@ -179,7 +183,7 @@ image-stays h (runTrace start n items) image = run-stays (h .state) image (h .bu
 next-valid : (w : Served) (c : DoorCall) → T (validState (w .state)) → T (validState (byDefinition w c .left .state))
 next-valid w c v =
     image-is (byDefinition w c .left .state)
-    (subst (λ (r : Reply Host). Image (r .left .state)) (one-call w v c)
+    (subst (λ (r : Reply Host). ImageOfSome decodeOf (r .left .state)) (one-call w v c)
     (image-stays (imageHost w) c (record { of = w .state; decodes = decode-encode (w .state) v })))
 
 -- ---- all the calls of a list

@@ -14,10 +14,11 @@ use Rattle.trace.specs.Window.{SameOutside}
 use Rattle.agreement.specs.Joint.{Joint, run, afresh, Agrees}
 use Rattle.image.specs.Image.{imageLength}
 use Rattle.view.specs.View.{viewOf}
-use Rattle.door.specs.declared.Answer.{Answer}
+use Rattle.settling.specs.declared.Answer.{Answer}
+use Rattle.settling.specs.Outcome.{done}
+use Rattle.module_calls.specs.Calls.{doorLook}
 use Rattle.door.specs.declared.Part.{Part}
-use Rattle.door.specs.Outcome.{done}
-use Rattle.door.specs.Door.{doorLook, doorFind}
+use Rattle.door.specs.Door.{doorFind}
 use Rattle.demands.specs.Calls.{DoorCall, setUp, readRegister, callHandler, runTrace, Host, answers, leftAfter, Allows, atDoor, byDefinition, ImageOf, causes, lookCauses, findCauses, Exactly, OnlyBeside, Beside, AllItems, Feeds, firmware}
 
 -- ---- DEMAND 1: every call has one outcome, changes only what it may, and refuses by number, exactly for the causes of the table

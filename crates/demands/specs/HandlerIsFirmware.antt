@@ -23,8 +23,8 @@ use Rattle.firmware.specs.Window.{windowOf}
 use Rattle.steps.specs.declared.Item.the-variants.{Call}
 use Rattle.steps.specs.Step.{afterAll}
 use Rattle.image.specs.HandlerPart.{handlerValid}
-use Rattle.door.specs.declared.Answer.{Answer}
-use Rattle.door.specs.Outcome.{done}
+use Rattle.settling.specs.declared.Answer.{Answer}
+use Rattle.settling.specs.Outcome.{done}
 use Rattle.demands.specs.Calls.{callHandler, atDoor, hasWindow, inWindow, ImageOf, shows, afterWriting, settingCKP, firmwareIf, firmware}
 use Rattle.demands.specs.Demands.{HandlerIsFirmware}
 use Rattle.demands.specs.DemandTwo.{demand-two}

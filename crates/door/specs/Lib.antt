@@ -1,4 +1,1 @@
-pub mod Outcome
 pub mod Door
-pub mod Laws
-pub mod Theorems

@@ -1,17 +1,17 @@
 -- The image of a state (01, "Calls, refusals and their order"): exactly 48 bytes, each state one image. The layout is ours.
 use Prim.Native.Nat.{ℕ, _-_}
-use mathlib.Core.Bool.{Bool, cond, _&&_}
+use mathlib.Core.Bool.{Bool, _&&_}
 use mathlib.Core.List.{List, _++_}
-use lib.Dec.{eqb}
+use mathlib.Core.Option.{Option, none, some}
 use lib.ListN.{length, drop, replicate}
-use Rattle.codec.specs.Codec.{isImage}
+use Rattle.codec.specs.Codec.{decodedBy}
 use Rattle.mssp.specs.Valid.{valid}
 use Rattle.firmware.specs.declared.State.{State}
 use Rattle.firmware.specs.Handler.{stateOf}
 use Rattle.module_image.specs.ModulePart.{moduleLength, modulePart, moduleFrom}
 use Rattle.image.specs.HandlerPart.{handlerPart, handlerFrom, handlerValid}
 use Rattle.image.specs.declared.Decoded.{Decoded}
-use Rattle.image.specs.declared.Decoded.the-variants.{Valid, NoImage}
+use Rattle.image.specs.declared.Decoded.the-variants.{Image, NoImage}
 
 abbrev pub imageLength : ℕ
 imageLength = 48
@@ -32,10 +32,11 @@ encodeOf s = padded imageLength (modulePart (s .mssp) ++ handlerPart (s .handler
 unfoldable pub parseOf : List ℕ → State
 parseOf b = stateOf (moduleFrom b) (handlerFrom (drop moduleLength b))
 
--- Bytes are an image if they are just the image of the state that they name, and there is such a state.
-unfoldable pub decodeOf : List ℕ → Decoded
-decodeOf b = cond (isImage encodeOf parseOf validState b) (Valid (parseOf b)) NoImage
+-- Bytes decode to the state that they name if they are just its image, and there is such a state.
+unfoldable pub decodeOf : List ℕ → Option State
+decodeOf b = decodedBy encodeOf parseOf validState b
 
--- An image is written only over bytes of its own length; others stay.
-abbrev pub saveOf : State → List ℕ → List ℕ
-saveOf s b = cond (eqb (length b) imageLength) (encodeOf s) b
+-- The state whose image the code has found bytes to be.
+abbrev pub stateIn : Decoded → Option State
+stateIn (Image s) = some s
+stateIn NoImage = none

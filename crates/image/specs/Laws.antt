@@ -1,15 +1,14 @@
 -- Laws of the image that the code's proofs and the theorems cite.
 use Prim.Native.Nat.{ℕ, _+_, _-_, _<_, _≤_}
-use mathlib.Core.Path.{_≡_, refl, sym, ap, _∙_}
-use mathlib.Core.Bool.{Bool, true, false, cond, _&&_, and-assoc, and-true}
-use mathlib.Core.List.{List, [], _∷_, _++_, append-nil}
-use mir.Facts.{and-yes}
-use lib.Dec.{T, eqb, eqb→eq}
+use mathlib.Core.Path.{_≡_, refl}
+use mathlib.Core.Bool.{Bool, cond, _&&_, and-assoc, and-true}
+use mathlib.Core.List.{List, _++_}
+use mathlib.Core.Option.{none, some}
+use lib.Dec.{eqb}
 use lib.ListN.{length, take, drop, getD, replicate, length-drop, drop-of-length-le}
-use lib.Seq.{take-length, take-all, drop-cons}
+use lib.Seq.{take-all, drop-cons}
 use native.Mathlib.Omega.{arith}
 use native.Mathlib.Numerals.{add-one}
-use borrow.Author.Tests.{eq-eqb}
 use Rattle.codec.specs.Codec.{sameBytes}
 use Rattle.mssp.specs.declared.Module.{Module}
 use Rattle.firmware.specs.declared.Handler.{Handler}
@@ -19,7 +18,6 @@ use Rattle.module_image.specs.ModulePart.{moduleLength, modulePart, moduleFrom}
 use Rattle.module_image.specs.Laws.{mark-back, module-back}
 use Rattle.image.specs.HandlerPart.{low, high, word, handlerPart, handlerFrom}
 use Rattle.image.specs.Image.{imageLength, validState, encodeOf, parseOf, decodeOf}
-use Rattle.image.specs.declared.Decoded.the-variants.{Valid, NoImage}
 
 -- ---- a state comes back from its image
 word-back : (n : ℕ) → word (low n) (high n) ≡ n
@@ -75,15 +73,6 @@ module _ (xs ys : List ℕ) (i : ℕ) (found : Bool) (l : length xs ≡ length y
 -- Bytes of the right length, by what the two tests together say.
 pub decoded :
     (b : List ℕ) {s : State} {image : List ℕ} {same good found : Bool} → s ≡ parseOf b → image ≡ encodeOf s
-    → same ≡ sameBytes image b → good ≡ validState s → same && good ≡ found → cond found (Valid s) NoImage ≡ decodeOf b
+    → same ≡ sameBytes image b → good ≡ validState s → same && good ≡ found → cond found (some s) none ≡ decodeOf b
 unfolding decodeOf
 decoded b e f g h i = simp (← i, h, g, f, e)
-
--- An image copied over bytes of its length is all there is.
-pub saved :
-    (s : State) (old : List ℕ) {image : List ℕ} → image ≡ encodeOf s → length old ≡ imageLength
-    → take (length image) image ++ drop (length image) old ≡ encodeOf s
-saved s old {image} e l =
-    let k : length image ≡ imageLength = ap length e ∙ encode-length s in
-    let n : length old ≤ length image = omega arith in
-    simp (take-length, drop-of-length-le old n, append-nil) e

@@ -3,7 +3,7 @@ mod handler_part;
 
 ghost use mathlib.Core.Path.{_≡_};
 ghost use lib.ListN.{length};
-ghost use Rattle.image.specs.Image.{imageLength, encodeOf, parseOf, decodeOf, saveOf, validState};
+ghost use Rattle.image.specs.Image.{imageLength, encodeOf, parseOf, stateIn, decodeOf, validState};
 ghost use Rattle.codec.specs.Codec.{sameBytes};
 use firmware::State;
 use module_image::MODULE_LENGTH;
@@ -12,12 +12,12 @@ pub const IMAGE_LENGTH: usize = 48;
 
 // What bytes are an image of.
 pub enum Decoded {
-    Valid(State),
+    Image(State),
     NoImage,
 }
 
 // The module's part, the handler's, and zeros.
-fn encode(s: State) -> [u8; IMAGE_LENGTH]
+pub fn encode(s: State) -> [u8; IMAGE_LENGTH]
     ensures { λ r. ⌜ r ≡ encodeOf s ⌝ }
 {
     let module = module_image::module_part(s.mssp);
@@ -62,7 +62,7 @@ fn same(a: &[u8], b: &[u8]) -> bool
 
 // The state whose image the bytes are, of whatever length they are.
 pub fn decode(bytes: &[u8]) -> Decoded
-    ensures { λ r. ⌜ r ≡ decodeOf (now (bytes .entry)) ⌝ }
+    ensures { λ r. ⌜ stateIn r ≡ decodeOf (now (bytes .entry)) ⌝ }
 {
     if bytes.len() != IMAGE_LENGTH {
         return Decoded::NoImage;
@@ -70,18 +70,8 @@ pub fn decode(bytes: &[u8]) -> Decoded
     let s = parse(bytes);
     let image = encode(s);
     if same(&image, bytes) & is_valid(s) {
-        Decoded::Valid(s)
+        Decoded::Image(s)
     } else {
         Decoded::NoImage
-    }
-}
-
-// Writes the image of s over bytes of its length; leaves bytes of another length as they are.
-pub fn save(bytes: &mut [u8], s: State)
-    ensures { λ _. ⌜ now (bytes .exit) ≡ saveOf s (now (bytes .entry)) ⌝ }
-{
-    if bytes.len() == IMAGE_LENGTH {
-        let image = encode(s);
-        bytes::copy(&image, bytes);
     }
 }

@@ -1,0 +1,62 @@
+-- What the handler's calls promise beside their contracts (01, "Calls, refusals and their order"): a refused one leaves the
+-- state's bytes and the buffer's.
+use Prim.Native.Nat.{ℕ}
+use mathlib.Core.Path.{_≡_, refl, sym}
+use mathlib.Core.Bool.{Bool, true, false}
+use mathlib.Core.List.{List}
+use native.Mathlib.Omega.{arith}
+use lib.Dec.{eqb, ltb}
+use lib.ListN.{length}
+use Rattle.truth.specs.Tests.{never}
+use Rattle.refusals.specs.Numbers.{accepted}
+use Rattle.firmware.specs.declared.State.{State}
+use Rattle.firmware.specs.declared.Made.{Made}
+use Rattle.firmware.specs.declared.Made.the-variants.{Ready, NotMade}
+use Rattle.firmware.specs.Handler.{setupOf}
+use Rattle.firmware.specs.Window.{windowFits, callOf, callChoice, CallOutcome}
+use Rattle.trace.specs.Run.{firstBad}
+use Rattle.trace.specs.Window.{runInOf, runChoice, RunOutcome}
+use Rattle.image.specs.Image.{imageLength, encodeOf, decodeOf}
+use Rattle.settling.specs.Outcome.{Keeps, KeepsLent}
+use Rattle.settling.specs.Theorems.{settled-keeps-lent, state-keeps-lent}
+use Rattle.firmware_calls.specs.Calls.{setupIf, doorSetup, settledCall, doorCall, settledRun, doorRun}
+
+setup-if : (fits : Bool) (made : Made) (bytes : List ℕ) → Keeps bytes (setupIf fits made bytes)
+setup-if false made bytes h = refl
+setup-if true (NotMade why) bytes h = refl
+setup-if true (Ready s) bytes h = absurd (omega arith)
+
+-- A refused call and a refused run leave the buffer.
+call-if :
+    (s : State) (buffer : List ℕ) (start n : ℕ) (fits : Bool)
+    → accepted (callChoice s buffer start n fits .verdict) ≡ false → callChoice s buffer start n fits .buffer ≡ buffer
+call-if s buffer start n true e = never (sym e)
+call-if s buffer start n false e = refl
+
+run-if :
+    (fits bad : Bool) (s : State) (buffer : List ℕ) (start n : ℕ) (items : List ℕ)
+    → accepted (runChoice fits bad s buffer start n items .verdict) ≡ false
+    → runChoice fits bad s buffer start n items .buffer ≡ buffer
+run-if false bad s buffer start n items e = refl
+run-if true true s buffer start n items e = refl
+run-if true false s buffer start n items e = never (sym e)
+
+pub setup-keeps : (bytes : List ℕ) (add n : ℕ) → Keeps bytes (doorSetup bytes add n)
+setup-keeps bytes add n = setup-if (eqb (length bytes) imageLength) (setupOf add n) bytes
+
+module _ (bytes buffer : List ℕ) (start n : ℕ) where
+  pub call-keeps : KeepsLent bytes buffer (doorCall bytes buffer start n)
+  call-keeps =
+      state-keeps-lent bytes (decodeOf bytes) buffer (λ s. settledCall bytes (callOf s buffer start n))
+      (λ s.
+      let o : CallOutcome = callOf s buffer start n in
+      settled-keeps-lent bytes buffer (o .verdict) 0 (encodeOf (o .state))
+      (call-if s buffer start n (windowFits (length buffer) start n (s .handler .n))))
+
+  pub run-keeps : (items : List ℕ) → KeepsLent bytes buffer (doorRun bytes buffer start n items)
+  run-keeps items =
+      state-keeps-lent bytes (decodeOf bytes) buffer (λ s. settledRun bytes (runInOf s buffer start n items))
+      (λ s.
+      let o : RunOutcome = runInOf s buffer start n items in
+      settled-keeps-lent bytes buffer (o .verdict) (o .item) (encodeOf (o .state))
+      (run-if (windowFits (length buffer) start n (s .handler .n)) (ltb (firstBad items) (length items)) s buffer start n items))

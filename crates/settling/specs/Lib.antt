@@ -1,0 +1,4 @@
+pub mod Outcome
+pub mod Left
+pub mod Laws
+pub mod Theorems
