@@ -1,13 +1,14 @@
 -- A stretch is a part of the samples: every item of it is a sample that the rules leave the module with where the stretch does.
-use Prim.Native.Nat.{ℕ, _+_, _<_, _≤_}
+use Prim.Native.Nat.{ℕ, zero, suc, _+_, _-_, _<_, _≤_}
 use mathlib.Core.Path.{_≡_, refl, sym, ap, subst, _∙_}
 use mathlib.Core.Bool.{Bool, true, false}
 use mathlib.Core.List.{List}
+use native.Mathlib.Nat.{add-zero}
 use native.Mathlib.Omega.{arith}
-use lib.Dec.{ltb}
+use lib.Dec.{leb, ltb}
 use lib.ListN.{length, drop, getD}
-use borrow.Author.Tests.{ltb-true, lt-ltb, le-ltb}
-use Rattle.truth.specs.Tests.{never}
+use borrow.Author.Tests.{ltb-true, ltb-false, leb-true, leb-false, lt-ltb, le-ltb}
+use Rattle.truth.specs.Tests.{never, by-test, and-first, and-second}
 use Rattle.wire.specs.declared.Bits.{Bits}
 use Rattle.wire.specs.declared.Remembered.{Remembered}
 use Rattle.wire.specs.declared.Remembered.the-variants.{Nothing, Wire}
@@ -21,13 +22,13 @@ use Rattle.mssp.specs.Phases.{bitsOf, isSending}
 use Rattle.mssp.specs.Drivers.{sclPulled, sdaPulled}
 use Rattle.stretch.specs.declared.Seen.{Seen}
 use Rattle.stretch.specs.declared.Stretch.{Stretch}
-use Rattle.stretch.specs.Walking.{Onward, walk-onward, Walking, walk-on, walk-by}
+use Rattle.stretch.specs.Walking.{Onward, walk-onward, Walking, walk-on, walk-by, walk-stops, walk-out}
 use Rattle.stretch.specs.Stretch.{takesBits, withBits, riseRule, fallRule, stretchBy, takingStops, takingGoes, sendingStops, sendingGoes, restingStops, restingGoes, phaseStretch, stretchFrom, stretchOf}
 use Rattle.stretch.specs.Theorems.{stretch-within}
 use Rattle.stretch.specs.Sampled.{moduleSeen, Sampled, bits-go, sending-goes, rest-goes}
 use Rattle.samples.specs.Loop.{lentFrom, lent-is}
 use Rattle.samples.specs.declared.Fed.{Fed}
-use Rattle.samples.specs.Samples.{noSample, sampledAt, movedOn, fedBy, passedIf, stretchPassed}
+use Rattle.samples.specs.Samples.{noSample, sampleAt, sampledAt, movedOn, fedBy, passedIf, stretchPassed, fedOf}
 
 -- A phase has its own bits, and a byte that is sent its own place.
 own-bits : (ph : Phase) → withBits ph (bitsOf ph) ≡ ph
@@ -102,14 +103,14 @@ module _ (m : Module) (items : List ℕ) where
 
 -- The two ways through the code.
 module _ (m : Module) (items : List ℕ) {ahead : Stretch} (is : ahead ≡ stretchOf m items) where
-  by-test : (t : Bool) → ltb 0 (ahead .length) ≡ t → passedIf t m ahead ≡ stretchPassed m items
-  by-test t e = ap (λ (x : Bool). passedIf x m ahead) (sym e) ∙ ap (λ (x : Stretch). passedIf (ltb 0 (x .length)) m x) is
+  as-tested : (t : Bool) → ltb 0 (ahead .length) ≡ t → passedIf t m ahead ≡ stretchPassed m items
+  as-tested t e = ap (λ (x : Bool). passedIf x m ahead) (sym e) ∙ ap (λ (x : Stretch). passedIf (ltb 0 (x .length)) m x) is
 
   pub passed-over : {n : Module} → 0 < ahead .length → n ≡ movedOn m ahead → fedBy n (ahead .length) ≡ stretchPassed m items
-  passed-over h e = ap (λ (x : Module). fedBy x (ahead .length)) e ∙ by-test true (lt-ltb 0 (ahead .length) h)
+  passed-over h e = ap (λ (x : Module). fedBy x (ahead .length)) e ∙ as-tested true (lt-ltb 0 (ahead .length) h)
 
   pub passed-none : ahead .length ≤ 0 → fedBy m 0 ≡ stretchPassed m items
-  passed-none h = by-test false (le-ltb 0 (ahead .length) h)
+  passed-none h = as-tested false (le-ltb 0 (ahead .length) h)
 
 -- Passed over or not, the samples go on from there.
 passed-if :
@@ -119,6 +120,14 @@ passed-if true m items e = (ahead-feeds m items (ltb-true 0 _ e), stretch-within
 passed-if false m items e = (record { place = refl; count = omega arith }, omega arith)
 
 -- ---- the loop, by what is left of the items
+sample-here : (items : List ℕ) (i : ℕ) → sampleAt items i ≡ true → (i < length items) × (getD items i 0 ≤ 3)
+sample-here items i t =
+    (ltb-true i (length items) (and-first (ltb i (length items)) (leb (getD items i 0) 3) t), leb-true (getD items i 0) 3 (and-second (ltb i (length items)) (leb (getD items i 0) 3) t))
+
+passed-some : (items : List ℕ) (i k : ℕ) → sampleAt items i ≡ true → sampleAt items (i + k) ≡ false → 0 < k
+passed-some items i zero t f = never (sym f ∙ ap (sampleAt items) (add-zero i) ∙ t)
+passed-some items i (suc k) t f = omega arith
+
 module _ {items : List ℕ} {m₀ : Module} {i : ℕ} {m : Module} (before : Walking noSample sampledAt items m₀ i m) where
   pub stretch-walked :
       {r : Fed} → r ≡ stretchPassed m (lentFrom i items) → Walking noSample sampledAt items m₀ (i + r .length) (r .mssp)
@@ -127,8 +136,23 @@ module _ {items : List ℕ} {m₀ : Module} {i : ℕ} {m : Module} (before : Wal
       subst (λ (x : Fed). Walking noSample sampledAt items m₀ (i + x .length) (x .mssp)) (sym e)
       (let k = passed-if (ltb 0 (stretchOf m (drop i items) .length)) m (drop i items) refl in walk-by before (k .0) (k .1) refl)
 
+  -- Where a sample stood and none does any more, the stretch had items.
+  pub stretch-moved :
+      {r : Fed} → r ≡ stretchPassed m (lentFrom i items) → sampleAt items i ≡ true → sampleAt items (i + r .length) ≡ false
+      → length items - (i + r .length) < length items - i
+  stretch-moved {r} is t f = let h = sample-here items i t .0 in let k = passed-some items i (r .length) t f in omega arith
+
+  pub sample-stands : sampleAt items i ≡ true → i < length items
+  sample-stands t = sample-here items i t .0
+
   -- One sample by the rules.
   pub sample-walked :
-      {n : Module} → i < length items → getD items i 0 ≤ 3 → n ≡ sampledAt m (getD items i 0)
-      → Walking noSample sampledAt items m₀ (i + 1) n
-  sample-walked h l e = walk-on before h (le-ltb 3 (getD items i 0) l) e
+      {n : Module} → sampleAt items i ≡ true → n ≡ sampledAt m (getD items i 0) → Walking noSample sampledAt items m₀ (i + 1) n
+  sample-walked t e = let k = sample-here items i t in walk-on before (k .0) (le-ltb 3 (getD items i 0) (k .1)) e
+
+  -- Where no sample stands, the walk has ended.
+  pub samples-end : sampleAt items i ≡ false → fedBy m i ≡ fedOf m₀ items
+  samples-end t =
+      by-test (ltb i (length items))
+      (λ l. walk-stops fedBy before (ltb-true i (length items) l) (lt-ltb 3 (getD items i 0) (leb-false (getD items i 0) 3 (rw l at t))))
+      (λ l. walk-out fedBy before (ltb-false i (length items) l))

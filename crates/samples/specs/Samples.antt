@@ -1,9 +1,10 @@
 -- Samples one after the other, over the module alone (01, "Calls, refusals and their order"): the items of a trace up to the
 -- first that is no sample.
 use Prim.Native.Nat.{ℕ}
-use mathlib.Core.Bool.{Bool, true, false}
+use mathlib.Core.Bool.{Bool, true, false, _&&_}
 use mathlib.Core.List.{List}
-use lib.Dec.{ltb}
+use lib.Dec.{leb, ltb}
+use lib.ListN.{length, getD}
 use Rattle.wire.specs.Wire.{sclOf, sdaOf}
 use Rattle.mssp.specs.declared.Module.{Module}
 use Rattle.mssp.specs.Module.{moduleOf}
@@ -17,6 +18,9 @@ use Rattle.samples.specs.declared.Fed.{Fed}
 -- An item above 3 is no sample.
 abbrev pub noSample : Module → ℕ → Bool
 noSample m item = ltb 3 item
+
+abbrev pub sampleAt : List ℕ → ℕ → Bool
+sampleAt items i = ltb i (length items) && leb (getD items i 0) 3
 
 abbrev pub sampledAt : Module → ℕ → Module
 sampledAt m item = sampled m (sclOf item) (sdaOf item)

@@ -1,7 +1,7 @@
 // Samples one after the other, over the module alone: a stretch, then the sample that a rule has to see. A handler adds to it
 // what it does between samples.
 ghost use mathlib.Core.Path.{_≡_};
-ghost use Rattle.samples.specs.Samples.{movedOn, stretchPassed, fedOf};
+ghost use Rattle.samples.specs.Samples.{movedOn, stretchPassed, sampleAt, fedOf};
 use mssp::Module;
 use stretch::Stretch;
 
@@ -39,21 +39,25 @@ fn pass_stretch(m: Module, items: &[u8]) -> Fed
     Fed { mssp: m, length: 0 }
 }
 
+// Whether an item stands at a place, and is a sample.
+fn is_sample_at(items: &[u8], i: usize) -> bool
+    ensures { λ r. ⌜ r ≡ sampleAt (now (items .entry)) i ⌝ }
+{
+    if i < items.len() { items[i] <= 3 } else { false }
+}
+
 // All the samples up to the first item that is none.
 pub fn feed(m: Module, items: &[u8]) -> Fed
     ensures { λ r. ⌜ r ≡ fedOf m (now (items .entry)) ⌝ }
 {
     let mut n = m;
     let mut i = 0;
-    while i < items.len() {
+    while is_sample_at(items, i) {
         let passed = pass_stretch(n, &items[i..]);
         n = passed.mssp;
         i += passed.length;
-        if i < items.len() {
+        if is_sample_at(items, i) {
             let item = items[i];
-            if item > 3 {
-                return Fed { mssp: n, length: i };
-            }
             n = sampling::sample(n, item / 2 % 2 == 1, item / 1 % 2 == 1);
             i += 1;
         }
