@@ -20,9 +20,10 @@ use Rattle.firmware.specs.Window.{windowOf, splice, inBuffer}
 use Rattle.firmware.specs.Laws.{within-length, inside}
 use Rattle.steps.specs.declared.Item.{Item}
 use Rattle.steps.specs.Step.{afterAll}
+use Rattle.steps.specs.Laws.{after-joined}
 use Rattle.trace.specs.Run.{firstBad, byteStepIf, byteStep, itemIf, itemAt, runFrom, runOf}
 use Rattle.trace.specs.Window.{SameOutside}
-use Rattle.trace.specs.Theorems.{run-joined, run-length, window-length, splice-outside}
+use Rattle.trace.specs.Theorems.{run-length, window-length, splice-outside}
 use Rattle.agreement.specs.Joint.{Joint, run, afresh, SamplesAndCalls, ended, sample, call as call-more, Agrees}
 use Rattle.agreement.specs.Record.{joint-run-is-the-run}
 use Rattle.agreement.specs.Demand.{demand-three}
@@ -148,7 +149,7 @@ module _ (start n : ℕ) where
 
       ran-on : (ys : List ℕ) → ranOn (ranOn w xs) ys ≡ ranOn w (xs ++ ys)
       ran-on ys =
-          rw (splice-window start n (left .bytes) (w .bytes) within left-length, ← run-joined (w .state) (windowOf start n (w .bytes)) xs ys, splice-again start n (left .bytes) (w .bytes) within left-length (runOf (w .state) (windowOf start n (w .bytes)) (xs ++ ys) .bytes))
+          rw (splice-window start n (left .bytes) (w .bytes) within left-length, ← after-joined itemAt (served (w .state) (windowOf start n (w .bytes))) xs ys, splice-again start n (left .bytes) (w .bytes) within left-length (runOf (w .state) (windowOf start n (w .bytes)) (xs ++ ys) .bytes))
 
   -- What calls that feed items do by the definitions: each is done, and they leave what the run leaves
   pub record Fed (w : Served) (calls : List DoorCall) (items : List ℕ) : Type 0 where

@@ -38,7 +38,7 @@ use Rattle.settling.specs.declared.Answer.{Answer}
 use Rattle.settling.specs.Outcome.{Outcome, Lent, lent, refused, settled, settledAccess, noState, byState, byAccess}
 use Rattle.settling.specs.Left.{ImageOfSome}
 use Rattle.settling.specs.Theorems.{stays}
-use Rattle.firmware_calls.specs.Calls.{setupIf, doorSetup, settledCall, settledRun}
+use Rattle.firmware_calls.specs.Calls.{setupIf, doorSetup, settledWork}
 use Rattle.firmware_calls.specs.Theorems.{setup-keeps}
 use Rattle.module_calls.specs.Calls.{moduleIn, imageWith, levelVerdict}
 use Rattle.doorkept.specs.Image.{setup-leaves, read-stays, write-stays, sample-stays, call-stays, run-stays}
@@ -110,14 +110,14 @@ module _ (w : Served) where
       (λ t. let h = ltb-false 3 level t in rw (t, lt-ltb level 4 (omega arith)))
 
   module _ (start n : ℕ) where
-    called-if : (fits : Bool) → lends (settledCall bytes (callChoice s (w .bytes) start n fits)) ≡ imageReply (inWindow fits false 0 w start n (Call ∷ []))
+    called-if : (fits : Bool) → lends (settledWork bytes (callChoice s (w .bytes) start n fits)) ≡ imageReply (inWindow fits false 0 w start n (Call ∷ []))
     unfolding afterAll
     called-if true = refl
     called-if false = refl
 
     ran-if :
         (items : List ℕ) (fits bad : Bool)
-        → lends (settledRun bytes (runChoice fits bad s (w .bytes) start n items)) ≡ imageReply (inWindow fits bad (firstBad items) w start n (map itemAt items))
+        → lends (settledWork bytes (runChoice fits bad s (w .bytes) start n items)) ≡ imageReply (inWindow fits bad (firstBad items) w start n (map itemAt items))
     ran-if items false bad = refl
     ran-if items true true = refl
     ran-if items true false = refl
@@ -142,10 +142,10 @@ module _ (w : Served) where
         ap (unlent (w .bytes)) (on-state (noState bytes) (λ t. settled (levelVerdict level) 0 (encodeOf (sampledBy t level)) bytes) s v)
         ∙ sampled level
     one-call (callHandler start n) =
-        ap lends (on-state (lent (noState bytes) (w .bytes)) (λ t. settledCall bytes (callOf t (w .bytes) start n)) s v)
+        ap lends (on-state (lent (noState bytes) (w .bytes)) (λ t. settledWork bytes (callOf t (w .bytes) start n)) s v)
         ∙ called-if start n (windowFits (length (w .bytes)) start n (s .handler .n))
     one-call (runTrace start n items) =
-        ap lends (on-state (lent (noState bytes) (w .bytes)) (λ t. settledRun bytes (runInOf t (w .bytes) start n items)) s v)
+        ap lends (on-state (lent (noState bytes) (w .bytes)) (λ t. settledWork bytes (runInOf t (w .bytes) start n items)) s v)
         ∙ ran-if start n items (windowFits (length (w .bytes)) start n (s .handler .n)) (ltb (firstBad items) (length items))
 
 -- Bytes are no state's image, or that of one.

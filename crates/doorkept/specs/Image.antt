@@ -23,10 +23,10 @@ use Rattle.firmware.specs.declared.State.{State}
 use Rattle.firmware.specs.declared.Made.{Made}
 use Rattle.firmware.specs.declared.Made.the-variants.{Ready, NotMade}
 use Rattle.firmware.specs.Handler.{isWindowLength, stateOf, setupOf}
-use Rattle.firmware.specs.Window.{windowFits, windowOf, callOf, callChoice, CallOutcome}
+use Rattle.firmware.specs.Window.{windowFits, windowOf, WindowOutcome, callOf, callChoice}
 use Rattle.firmware.specs.Laws.{length-within, within-length}
 use Rattle.trace.specs.Run.{sampledBy}
-use Rattle.trace.specs.Window.{runInOf, RunOutcome}
+use Rattle.trace.specs.Window.{runInOf}
 use Rattle.runkept.specs.States.{ValidHandler, ValidState}
 use Rattle.runkept.specs.Kept.{setup-kept, called-kept, run-in-kept}
 use Rattle.image.specs.HandlerPart.{handlerValid}
@@ -35,7 +35,7 @@ use Rattle.image.specs.Theorems.{decode-encode, decode-valid}
 use Rattle.settling.specs.Outcome.{settled, byAccess}
 use Rattle.settling.specs.Left.{ImageOfSome, Leaves}
 use Rattle.settling.specs.Theorems.{refused-never-accepted, settled-leaves, state-leaves, access-leaves, state-leaves-lent, stays}
-use Rattle.firmware_calls.specs.Calls.{setupIf, doorSetup, settledCall, doorCall, settledRun, doorRun}
+use Rattle.firmware_calls.specs.Calls.{setupIf, doorSetup, settledWork, byWork, doorCall, doorRun}
 use Rattle.firmware_calls.specs.Theorems.{call-keeps, run-keeps}
 use Rattle.module_calls.specs.Calls.{moduleIn, imageWith, doorRead, doorWrite, levelVerdict, doorSample}
 use Rattle.module_calls.specs.Theorems.{read-keeps, write-keeps, sample-keeps}
@@ -110,22 +110,22 @@ module _ (bytes : List ℕ) where
       (image-of (sampledBy s level)
       (record { mssp = sample-kept (s .mssp) (sclOf level) (sdaOf level) (v .mssp); handler = v .handler })))
 
-  module _ (buffer : List ℕ) (start n : ℕ) where
-    pub call-leaves : Leaves decodeOf (doorCall bytes buffer start n .outcome)
-    call-leaves =
-        state-leaves-lent decodeOf bytes buffer (λ s. settledCall bytes (callOf s buffer start n))
-        (λ s e.
-        let o : CallOutcome = callOf s buffer start n in
-        settled-leaves decodeOf (o .verdict) 0 bytes
-        (image-of (o .state) (call-if s buffer start n (windowFits (length buffer) start n (s .handler .n)) (given s e))))
+  module _ (buffer : List ℕ) where
+    work-leaves :
+        (work : State → WindowOutcome) → ((s : State) → ValidState s → ValidState (work s .state))
+        → Leaves decodeOf (byWork work bytes buffer .outcome)
+    work-leaves work keeps =
+        state-leaves-lent decodeOf bytes buffer (λ s. settledWork bytes (work s))
+        (λ s e. settled-leaves decodeOf (work s .verdict) (work s .item) bytes (image-of (work s .state) (keeps s (given s e))))
 
-    pub run-leaves : (items : List ℕ) → Leaves decodeOf (doorRun bytes buffer start n items .outcome)
-    run-leaves items =
-        state-leaves-lent decodeOf bytes buffer (λ s. settledRun bytes (runInOf s buffer start n items))
-        (λ s e.
-        let o : RunOutcome = runInOf s buffer start n items in
-        settled-leaves decodeOf (o .verdict) (o .item) bytes
-        (image-of (o .state) (run-in-kept s buffer start n items (given s e))))
+    module _ (start n : ℕ) where
+      pub call-leaves : Leaves decodeOf (doorCall bytes buffer start n .outcome)
+      call-leaves =
+          work-leaves (λ s. callOf s buffer start n)
+          (λ s v. call-if s buffer start n (windowFits (length buffer) start n (s .handler .n)) v)
+
+      pub run-leaves : (items : List ℕ) → Leaves decodeOf (doorRun bytes buffer start n items .outcome)
+      run-leaves items = work-leaves (λ s. runInOf s buffer start n items) (λ s v. run-in-kept s buffer start n items v)
 
 -- ---- an image stays an image, whatever is settled
 module _ (bytes : List ℕ) (image : ImageOfSome decodeOf bytes) where

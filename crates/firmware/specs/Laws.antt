@@ -12,7 +12,7 @@ use Rattle.refusals.specs.declared.Refusal.the-variants.{NoWindow}
 use Rattle.refusals.specs.declared.Verdict.the-variants.{Done, Refused}
 use Rattle.firmware.specs.declared.State.{State}
 use Rattle.firmware.specs.Handler.{longestWindow, isWindowLength, Served, served, acknowledged, addressed, sent, taken, serve, calledIf, called}
-use Rattle.firmware.specs.Window.{windowFits, windowOf, splice, inBuffer, calledIn, callOutcome, callChoice, callOf}
+use Rattle.firmware.specs.Window.{windowFits, windowOf, splice, inBuffer, calledIn, windowOutcome, workDone, callChoice, callOf}
 
 module _ (s : State) (bytes : List ℕ) where
   -- A call, by what its two tests are.
@@ -89,10 +89,10 @@ module _ (s : State) (buffer : List ℕ) (start n : ℕ) where
   pub call-done :
       {f : Bool} → f ≡ windowFits (length buffer) start n (s .handler .n) → f ≡ true
       → {r : State} {left : List ℕ} → served r left ≡ calledIn s buffer start n
-      → callOutcome (Done 0) r left ≡ callOf s buffer start n
-  call-done e t h = ap (λ (w : Served). callOutcome (Done 0) (w .state) (w .bytes)) h ∙ sym (ap (callChoice s buffer start n) (sym e ∙ t))
+      → windowOutcome (Done 0) 0 r left ≡ callOf s buffer start n
+  call-done e t h = ap workDone h ∙ sym (ap (callChoice s buffer start n) (sym e ∙ t))
 
   pub call-refused :
       {f : Bool} → f ≡ windowFits (length buffer) start n (s .handler .n) → f ≡ false
-      → callOutcome (Refused NoWindow) s buffer ≡ callOf s buffer start n
+      → windowOutcome (Refused NoWindow) 0 s buffer ≡ callOf s buffer start n
   call-refused e t = sym (ap (callChoice s buffer start n) (sym e ∙ t))

@@ -31,19 +31,23 @@ inBuffer work buffer start n =
 abbrev pub calledIn : State → List ℕ → ℕ → ℕ → Served
 calledIn s buffer start n = inBuffer (called s) buffer start n
 
--- All that a call decides.
-pub record CallOutcome : Type 0 where
+-- All that work over a window decides: the verdict, the item's number beside it, the state and every byte of the buffer.
+pub record WindowOutcome : Type 0 where
   pub verdict : Verdict
+  pub item : ℕ
   pub state : State
   pub buffer : List ℕ
 
-abbrev pub callOutcome : Verdict → State → List ℕ → CallOutcome
-callOutcome verdict s buffer = record { verdict = verdict; state = s; buffer = buffer }
+abbrev pub windowOutcome : Verdict → ℕ → State → List ℕ → WindowOutcome
+windowOutcome verdict item s buffer = record { verdict = verdict; item = item; state = s; buffer = buffer }
+
+abbrev pub workDone : Served → WindowOutcome
+workDone w = windowOutcome (Done 0) 0 (w .state) (w .bytes)
 
 -- A window that does not fit is refused; state and buffer stay.
-abbrev pub callChoice : State → List ℕ → ℕ → ℕ → Bool → CallOutcome
-callChoice s buffer start n true = callOutcome (Done 0) (calledIn s buffer start n .state) (calledIn s buffer start n .bytes)
-callChoice s buffer start n false = callOutcome (Refused NoWindow) s buffer
+abbrev pub callChoice : State → List ℕ → ℕ → ℕ → Bool → WindowOutcome
+callChoice s buffer start n true = workDone (calledIn s buffer start n)
+callChoice s buffer start n false = windowOutcome (Refused NoWindow) 0 s buffer
 
-abbrev pub callOf : State → List ℕ → ℕ → ℕ → CallOutcome
+abbrev pub callOf : State → List ℕ → ℕ → ℕ → WindowOutcome
 callOf s buffer start n = callChoice s buffer start n (windowFits (length buffer) start n (s .handler .n))

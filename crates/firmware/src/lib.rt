@@ -3,7 +3,7 @@ ghost use mathlib.Core.Path.{_≡_};
 ghost use Prim.Native.Nat.{_+_, _≤_};
 ghost use lib.ListN.{length};
 ghost use Rattle.firmware.specs.Handler.{isWindowLength, setupOf, served, acknowledged, addressed, sent, taken, called};
-ghost use Rattle.firmware.specs.Window.{windowFits, calledIn, callOutcome, callOf};
+ghost use Rattle.firmware.specs.Window.{windowFits, calledIn, windowOutcome, callOf};
 use mssp::Module;
 use refusals::Refusal;
 use refusals::Verdict;
@@ -160,7 +160,7 @@ fn handle_in(s: State, buffer: &mut [u8], start: usize, n: usize) -> State
 
 // A handler call. A window that does not fit is refused, and then nothing changes.
 pub fn call(s: State, buffer: &mut [u8], start: u64, n: u64) -> Called
-    ensures { λ r. ⌜ callOutcome (r .verdict) (r .state) (now (buffer .exit)) ≡ callOf s (now (buffer .entry)) start n ⌝ }
+    ensures { λ r. ⌜ windowOutcome (r .verdict) 0 (r .state) (now (buffer .exit)) ≡ callOf s (now (buffer .entry)) start n ⌝ }
 {
     let wanted = s.handler.n;
     if window_fits(buffer.len(), start, n, wanted) {

@@ -4,11 +4,12 @@ use mathlib.Core.Bool.{Bool, true, false}
 use mathlib.Core.List.{List}
 use lib.Dec.{eqb}
 use lib.ListN.{length}
+use Rattle.firmware.specs.declared.State.{State}
 use Rattle.firmware.specs.declared.Made.{Made}
 use Rattle.firmware.specs.declared.Made.the-variants.{Ready, NotMade}
 use Rattle.firmware.specs.Handler.{setupOf}
-use Rattle.firmware.specs.Window.{callOf, CallOutcome}
-use Rattle.trace.specs.Window.{runInOf, RunOutcome}
+use Rattle.firmware.specs.Window.{WindowOutcome, callOf}
+use Rattle.trace.specs.Window.{runInOf}
 use Rattle.image.specs.Image.{imageLength, encodeOf, decodeOf}
 use Rattle.settling.specs.Outcome.{Outcome, outcome, Lent, lent, done, refused, settled, noState, byState}
 
@@ -22,17 +23,15 @@ setupIf true (Ready s) bytes = outcome (done 0) (encodeOf s)
 abbrev pub doorSetup : List ℕ → ℕ → ℕ → Outcome
 doorSetup bytes add n = setupIf (eqb (length bytes) imageLength) (setupOf add n) bytes
 
--- ---- a handler call and a run, over a window of the buffer
-abbrev pub settledCall : List ℕ → CallOutcome → Lent
-settledCall bytes o = lent (settled (o .verdict) 0 (encodeOf (o .state)) bytes) (o .buffer)
+-- ---- work over a window of the buffer: a handler call, a run
+abbrev pub settledWork : List ℕ → WindowOutcome → Lent
+settledWork bytes o = lent (settled (o .verdict) (o .item) (encodeOf (o .state)) bytes) (o .buffer)
+
+abbrev pub byWork : (State → WindowOutcome) → List ℕ → List ℕ → Lent
+byWork work bytes buffer = byState (decodeOf bytes) (lent (noState bytes) buffer) (λ s. settledWork bytes (work s))
 
 abbrev pub doorCall : List ℕ → List ℕ → ℕ → ℕ → Lent
-doorCall bytes buffer start n =
-    byState (decodeOf bytes) (lent (noState bytes) buffer) (λ s. settledCall bytes (callOf s buffer start n))
-
-abbrev pub settledRun : List ℕ → RunOutcome → Lent
-settledRun bytes o = lent (settled (o .verdict) (o .item) (encodeOf (o .state)) bytes) (o .buffer)
+doorCall bytes buffer start n = byWork (λ s. callOf s buffer start n) bytes buffer
 
 abbrev pub doorRun : List ℕ → List ℕ → ℕ → ℕ → List ℕ → Lent
-doorRun bytes buffer start n items =
-    byState (decodeOf bytes) (lent (noState bytes) buffer) (λ s. settledRun bytes (runInOf s buffer start n items))
+doorRun bytes buffer start n items = byWork (λ s. runInOf s buffer start n items) bytes buffer

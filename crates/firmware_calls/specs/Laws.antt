@@ -12,14 +12,13 @@ use Rattle.firmware.specs.declared.State.{State}
 use Rattle.firmware.specs.declared.Made.{Made}
 use Rattle.firmware.specs.declared.Made.the-variants.{Ready, NotMade}
 use Rattle.firmware.specs.Handler.{setupOf}
-use Rattle.firmware.specs.Window.{CallOutcome, callOutcome}
-use Rattle.trace.specs.Window.{RunOutcome, runOutcome}
+use Rattle.firmware.specs.Window.{WindowOutcome, windowOutcome}
 use Rattle.image.specs.Image.{imageLength, encodeOf}
 use Rattle.image.specs.Laws.{encode-length}
 use Rattle.settling.specs.declared.Answer.{Answer}
 use Rattle.settling.specs.Outcome.{Outcome, outcome, lent, refused, imageOver, settled}
 use Rattle.settling.specs.Laws.{settled-whole}
-use Rattle.firmware_calls.specs.Calls.{doorSetup, settledCall, settledRun}
+use Rattle.firmware_calls.specs.Calls.{doorSetup, settledWork}
 
 -- ---- set-up
 module _ (bytes : List ℕ) (add n : ℕ) where
@@ -40,15 +39,9 @@ module _ (bytes : List ℕ) (add n : ℕ) where
         (settled-whole (Done 0) 0 (encodeOf s) bytes (long ∙ sym (encode-length s)) f g)
 
 -- ---- what is settled on a state
-module _ (bytes : List ℕ) (verdict : Verdict) (next : State) {image buffer : List ℕ} {left : Outcome} (l : length bytes ≡ length (encodeOf next)) (is : image ≡ encodeOf next) where
-  pub call-settled :
-      {o : CallOutcome} → callOutcome verdict next buffer ≡ o → left ≡ settled verdict 0 (imageOver image bytes) bytes
-      → lent left buffer ≡ settledCall bytes o
-  call-settled e f =
-      ap (λ (x : Outcome). lent x buffer) (settled-whole verdict 0 (encodeOf next) bytes l is f) ∙ ap (settledCall bytes) e
-
-  pub run-settled :
-      {item : ℕ} {o : RunOutcome} → runOutcome verdict item next buffer ≡ o
-      → left ≡ settled verdict item (imageOver image bytes) bytes → lent left buffer ≡ settledRun bytes o
-  run-settled {item} e f =
-      ap (λ (x : Outcome). lent x buffer) (settled-whole verdict item (encodeOf next) bytes l is f) ∙ ap (settledRun bytes) e
+pub work-settled :
+    (bytes : List ℕ) (verdict : Verdict) (next : State) {image buffer : List ℕ} {left : Outcome} {item : ℕ} {o : WindowOutcome}
+    → length bytes ≡ length (encodeOf next) → image ≡ encodeOf next → windowOutcome verdict item next buffer ≡ o
+    → left ≡ settled verdict item (imageOver image bytes) bytes → lent left buffer ≡ settledWork bytes o
+work-settled bytes verdict next {buffer = buffer} {item = item} l is e f =
+    ap (λ (x : Outcome). lent x buffer) (settled-whole verdict item (encodeOf next) bytes l is f) ∙ ap (settledWork bytes) e

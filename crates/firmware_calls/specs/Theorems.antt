@@ -13,13 +13,13 @@ use Rattle.firmware.specs.declared.State.{State}
 use Rattle.firmware.specs.declared.Made.{Made}
 use Rattle.firmware.specs.declared.Made.the-variants.{Ready, NotMade}
 use Rattle.firmware.specs.Handler.{setupOf}
-use Rattle.firmware.specs.Window.{windowFits, callOf, callChoice, CallOutcome}
+use Rattle.firmware.specs.Window.{windowFits, WindowOutcome, callOf, callChoice}
 use Rattle.trace.specs.Run.{firstBad}
-use Rattle.trace.specs.Window.{runInOf, runChoice, RunOutcome}
+use Rattle.trace.specs.Window.{runInOf, runChoice}
 use Rattle.image.specs.Image.{imageLength, encodeOf, decodeOf}
 use Rattle.settling.specs.Outcome.{Keeps, KeepsLent}
 use Rattle.settling.specs.Theorems.{settled-keeps-lent, state-keeps-lent}
-use Rattle.firmware_calls.specs.Calls.{setupIf, doorSetup, settledCall, doorCall, settledRun, doorRun}
+use Rattle.firmware_calls.specs.Calls.{setupIf, doorSetup, settledWork, byWork, doorCall, doorRun}
 
 setup-if : (fits : Bool) (made : Made) (bytes : List ℕ) → Keeps bytes (setupIf fits made bytes)
 setup-if false made bytes h = refl
@@ -44,19 +44,20 @@ run-if true false s buffer start n items e = never (sym e)
 pub setup-keeps : (bytes : List ℕ) (add n : ℕ) → Keeps bytes (doorSetup bytes add n)
 setup-keeps bytes add n = setup-if (eqb (length bytes) imageLength) (setupOf add n) bytes
 
-module _ (bytes buffer : List ℕ) (start n : ℕ) where
-  pub call-keeps : KeepsLent bytes buffer (doorCall bytes buffer start n)
-  call-keeps =
-      state-keeps-lent bytes (decodeOf bytes) buffer (λ s. settledCall bytes (callOf s buffer start n))
-      (λ s.
-      let o : CallOutcome = callOf s buffer start n in
-      settled-keeps-lent bytes buffer (o .verdict) 0 (encodeOf (o .state))
-      (call-if s buffer start n (windowFits (length buffer) start n (s .handler .n))))
+module _ (bytes buffer : List ℕ) where
+  work-keeps :
+      (work : State → WindowOutcome) → ((s : State) → accepted (work s .verdict) ≡ false → work s .buffer ≡ buffer)
+      → KeepsLent bytes buffer (byWork work bytes buffer)
+  work-keeps work same =
+      state-keeps-lent bytes (decodeOf bytes) buffer (λ s. settledWork bytes (work s))
+      (λ s. settled-keeps-lent bytes buffer (work s .verdict) (work s .item) (encodeOf (work s .state)) (same s))
 
-  pub run-keeps : (items : List ℕ) → KeepsLent bytes buffer (doorRun bytes buffer start n items)
-  run-keeps items =
-      state-keeps-lent bytes (decodeOf bytes) buffer (λ s. settledRun bytes (runInOf s buffer start n items))
-      (λ s.
-      let o : RunOutcome = runInOf s buffer start n items in
-      settled-keeps-lent bytes buffer (o .verdict) (o .item) (encodeOf (o .state))
-      (run-if (windowFits (length buffer) start n (s .handler .n)) (ltb (firstBad items) (length items)) s buffer start n items))
+  module _ (start n : ℕ) where
+    pub call-keeps : KeepsLent bytes buffer (doorCall bytes buffer start n)
+    call-keeps =
+        work-keeps (λ s. callOf s buffer start n) (λ s. call-if s buffer start n (windowFits (length buffer) start n (s .handler .n)))
+
+    pub run-keeps : (items : List ℕ) → KeepsLent bytes buffer (doorRun bytes buffer start n items)
+    run-keeps items =
+        work-keeps (λ s. runInOf s buffer start n items)
+        (λ s. run-if (windowFits (length buffer) start n (s .handler .n)) (ltb (firstBad items) (length items)) s buffer start n items)

@@ -1,29 +1,25 @@
 -- Demand 2 over a whole history: after each item state and window are the definitions' fold over the items up to it, and the
 -- state is a state. `history::after` is proved to give that fold, for every list of items, every count and every state.
 use Prim.Native.Nat.{ℕ, suc, _<_, _/_}
-use mathlib.Core.Path.{_≡_, refl}
-use mathlib.Core.List.{List, [], _∷_, _++_, map}
+use mathlib.Core.Path.{_≡_}
+use mathlib.Core.List.{List, [], _∷_, map}
 use native.Mathlib.Omega.{arith}
 use lib.ListN.{length, take, getD}
 use lib.Seq.{take-suc}
 use Rattle.firmware.specs.Handler.{Served}
 use Rattle.steps.specs.Step.{after, afterAll}
+use Rattle.steps.specs.Laws.{after-joined}
 use Rattle.trace.specs.Run.{itemAt}
 use Rattle.runkept.specs.States.{ValidState}
 use Rattle.runkept.specs.Kept.{items-kept}
 use Rattle.history.specs.History.{itemOf, historyOf}
-
-pub history-joined : (w : Served) (xs ys : List ℕ) → historyOf w (xs ++ ys) ≡ historyOf (historyOf w xs) ys
-unfolding afterAll
-history-joined w [] ys = refl
-history-joined w (x ∷ xs) ys = history-joined (after w (itemOf x)) xs ys
 
 -- What the history leaves after item k is that item's step on what it left before: no item is passed over, at any place.
 pub after-each-number :
     (w : Served) (items : List ℕ) (k : ℕ) → k < length items
     → historyOf w (take (suc k) items) ≡ after (historyOf w (take k items)) (itemOf (getD items k 0))
 unfolding afterAll
-after-each-number w items k h = rw (take-suc items k 0) (history-joined w (take k items) (getD items k 0 ∷ []))
+after-each-number w items k h = rw (take-suc items k 0) (after-joined itemOf w (take k items) (getD items k 0 ∷ []))
 
 -- A trace is a history: a byte is the same item in both.
 pub byte-item : (byte : ℕ) → byte < 65536 → itemOf byte ≡ itemAt byte

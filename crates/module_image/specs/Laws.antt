@@ -5,7 +5,6 @@ use mathlib.Core.Bool.{Bool, true, false}
 use mathlib.Core.List.{List, _++_}
 use mir.Val.{boolByte}
 use lib.Dec.{eqb}
-use lib.ListN.{length}
 use Rattle.wire.specs.Byte.{bit}
 use Rattle.mssp.specs.declared.Config.{Config}
 use Rattle.mssp.specs.declared.Live.{Live}
@@ -13,10 +12,7 @@ use Rattle.mssp.specs.declared.Module.{Module}
 use Rattle.register_bytes.specs.Bytes.{statOf, con1Of, con2Of, con3Of}
 use Rattle.register_bytes.specs.Bits.{bits-back}
 use Rattle.phase_image.specs.Laws.{phase-back, wire-back}
-use Rattle.module_image.specs.ModulePart.{configFrom, liveFrom, moduleLength, modulePart, moduleFrom}
-
-pub part-length : (m : Module) → length (modulePart m) ≡ moduleLength
-part-length m = refl
+use Rattle.module_image.specs.ModulePart.{configFrom, liveFrom, modulePart, moduleFrom}
 
 bit-back : (b : Bool) → bit 0 (boolByte b) ≡ b
 bit-back true = refl

@@ -68,6 +68,22 @@ abbrev pub setWCOL : Bool → Config → Config
 setWCOL v c =
     configOf (c .smp) (c .cke) v (c .sspen) (c .sspm3) (c .sspm2) (c .sspm1) (c .sspm0) (c .gcen) (c .ackdt) (c .sen) (c .pcie) (c .scie) (c .sdaht) (c .sbcde) (c .ahen) (c .dhen) (c .add) (c .msk)
 
+abbrev pub setSTAT : Bool → Bool → Config → Config
+setSTAT smp cke c =
+    configOf smp cke (c .wcol) (c .sspen) (c .sspm3) (c .sspm2) (c .sspm1) (c .sspm0) (c .gcen) (c .ackdt) (c .sen) (c .pcie) (c .scie) (c .sdaht) (c .sbcde) (c .ahen) (c .dhen) (c .add) (c .msk)
+
+abbrev pub setCON1 : Bool → Bool → Bool → Bool → Bool → Bool → Config → Config
+setCON1 wcol sspen sspm3 sspm2 sspm1 sspm0 c =
+    configOf (c .smp) (c .cke) wcol sspen sspm3 sspm2 sspm1 sspm0 (c .gcen) (c .ackdt) (c .sen) (c .pcie) (c .scie) (c .sdaht) (c .sbcde) (c .ahen) (c .dhen) (c .add) (c .msk)
+
+abbrev pub setCON2 : Bool → Bool → Bool → Config → Config
+setCON2 gcen ackdt sen c =
+    configOf (c .smp) (c .cke) (c .wcol) (c .sspen) (c .sspm3) (c .sspm2) (c .sspm1) (c .sspm0) gcen ackdt sen (c .pcie) (c .scie) (c .sdaht) (c .sbcde) (c .ahen) (c .dhen) (c .add) (c .msk)
+
+abbrev pub setCON3 : Bool → Bool → Bool → Bool → Bool → Bool → Config → Config
+setCON3 pcie scie sdaht sbcde ahen dhen c =
+    configOf (c .smp) (c .cke) (c .wcol) (c .sspen) (c .sspm3) (c .sspm2) (c .sspm1) (c .sspm0) (c .gcen) (c .ackdt) (c .sen) pcie scie sdaht sbcde ahen dhen (c .add) (c .msk)
+
 abbrev pub setADD : ℕ → Config → Config
 setADD v c =
     configOf (c .smp) (c .cke) (c .wcol) (c .sspen) (c .sspm3) (c .sspm2) (c .sspm1) (c .sspm0) (c .gcen) (c .ackdt) (c .sen) (c .pcie) (c .scie) (c .sdaht) (c .sbcde) (c .ahen) (c .dhen) v (c .msk)

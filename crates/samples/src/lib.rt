@@ -43,7 +43,11 @@ fn pass_stretch(m: Module, items: &[u8]) -> Fed
 fn is_sample_at(items: &[u8], i: usize) -> bool
     ensures { λ r. ⌜ r ≡ sampleAt (now (items .entry)) i ⌝ }
 {
-    if i < items.len() { items[i] <= 3 } else { false }
+    if i < items.len() {
+        items[i] <= 3
+    } else {
+        false
+    }
 }
 
 // All the samples up to the first item that is none.

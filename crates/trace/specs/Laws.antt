@@ -15,9 +15,9 @@ use Rattle.samples.specs.declared.Fed.{Fed}
 use Rattle.samples.specs.Samples.{sampledAt, fedOf}
 use Rattle.firmware.specs.declared.State.{State}
 use Rattle.firmware.specs.Handler.{Served, served, stateOf, called}
-use Rattle.firmware.specs.Window.{windowFits}
+use Rattle.firmware.specs.Window.{windowFits, windowOutcome, workDone}
 use Rattle.trace.specs.Run.{firstBad, sampledBy, levelTaken, byteStepIf, byteStep}
-use Rattle.trace.specs.Window.{ranIn, runOutcome, ranOutcome, runChoice, runInOf}
+use Rattle.trace.specs.Window.{ranIn, runChoice, runInOf}
 
 -- ---- one item
 module _ (s : State) (bytes : List ℕ) (item : ℕ) where
@@ -52,16 +52,16 @@ module _ (s : State) (buffer : List ℕ) (start n : ℕ) (items : List ℕ) {f :
       → runChoice a b s buffer start n items ≡ runInOf s buffer start n items
   chosen a b ea eb = sym (ap₂ (λ (x y : Bool). runChoice x y s buffer start n items) (sym fits ∙ ea) eb)
 
-  pub no-window : not f ≡ true → runOutcome (Refused NoWindow) 0 s buffer ≡ runInOf s buffer start n items
+  pub no-window : not f ≡ true → windowOutcome (Refused NoWindow) 0 s buffer ≡ runInOf s buffer start n items
   no-window h = chosen false (ltb (firstBad items) (length items)) (not-true f h) refl
 
   module _ (h : not f ≡ false) {bad : ℕ} (first : bad ≡ firstBad items) where
-    pub no-item : bad < length items → runOutcome (Refused NoItem) bad s buffer ≡ runInOf s buffer start n items
+    pub no-item : bad < length items → windowOutcome (Refused NoItem) bad s buffer ≡ runInOf s buffer start n items
     no-item l =
-        ap (λ (k : ℕ). runOutcome (Refused NoItem) k s buffer) first
+        ap (λ (k : ℕ). windowOutcome (Refused NoItem) k s buffer) first
         ∙ chosen true true (not-false f h) (rw first at (lt-ltb bad (length items) l))
 
     pub all-ran :
         length items ≤ bad → {r : State} {left : List ℕ} → served r left ≡ ranIn s buffer start n items
-        → runOutcome (Done 0) 0 r left ≡ runInOf s buffer start n items
-    all-ran l e = ap ranOutcome e ∙ chosen true false (not-false f h) (rw first at (le-ltb bad (length items) l))
+        → windowOutcome (Done 0) 0 r left ≡ runInOf s buffer start n items
+    all-ran l e = ap workDone e ∙ chosen true false (not-false f h) (rw first at (le-ltb bad (length items) l))

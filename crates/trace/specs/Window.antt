@@ -9,34 +9,21 @@ use Rattle.refusals.specs.declared.Verdict.{Verdict}
 use Rattle.refusals.specs.declared.Verdict.the-variants.{Done, Refused}
 use Rattle.firmware.specs.declared.State.{State}
 use Rattle.firmware.specs.Handler.{Served}
-use Rattle.firmware.specs.Window.{windowFits, inBuffer}
+use Rattle.firmware.specs.Window.{windowFits, inBuffer, WindowOutcome, windowOutcome, workDone}
 use Rattle.trace.specs.Run.{firstBad, runOf}
 use mathlib.Core.Path.{_≡_}
 
 abbrev pub ranIn : State → List ℕ → ℕ → ℕ → List ℕ → Served
 ranIn s buffer start n items = inBuffer (λ bytes. runOf s bytes items) buffer start n
 
--- All that a run decides: the verdict, the item's number beside it, the state and every byte of the buffer.
-pub record RunOutcome : Type 0 where
-  pub verdict : Verdict
-  pub item : ℕ
-  pub state : State
-  pub buffer : List ℕ
-
-abbrev pub runOutcome : Verdict → ℕ → State → List ℕ → RunOutcome
-runOutcome verdict item s buffer = record { verdict = verdict; item = item; state = s; buffer = buffer }
-
-abbrev pub ranOutcome : Served → RunOutcome
-ranOutcome w = runOutcome (Done 0) 0 (w .state) (w .bytes)
-
 -- By whether the window fits and whether an item is bad. Refused, state and buffer stay; beside 4 stands the first bad
 -- item's number.
-abbrev pub runChoice : Bool → Bool → State → List ℕ → ℕ → ℕ → List ℕ → RunOutcome
-runChoice false bad s buffer start n items = runOutcome (Refused NoWindow) 0 s buffer
-runChoice true true s buffer start n items = runOutcome (Refused NoItem) (firstBad items) s buffer
-runChoice true false s buffer start n items = ranOutcome (ranIn s buffer start n items)
+abbrev pub runChoice : Bool → Bool → State → List ℕ → ℕ → ℕ → List ℕ → WindowOutcome
+runChoice false bad s buffer start n items = windowOutcome (Refused NoWindow) 0 s buffer
+runChoice true true s buffer start n items = windowOutcome (Refused NoItem) (firstBad items) s buffer
+runChoice true false s buffer start n items = workDone (ranIn s buffer start n items)
 
-abbrev pub runInOf : State → List ℕ → ℕ → ℕ → List ℕ → RunOutcome
+abbrev pub runInOf : State → List ℕ → ℕ → ℕ → List ℕ → WindowOutcome
 runInOf s buffer start n items =
     runChoice (windowFits (length buffer) start n (s .handler .n)) (ltb (firstBad items) (length items)) s buffer start n items
 

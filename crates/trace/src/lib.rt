@@ -3,8 +3,9 @@ ghost use mathlib.Core.Path.{_≡_};
 ghost use Prim.Native.Nat.{_+_, _≤_};
 ghost use lib.ListN.{length};
 ghost use Rattle.firmware.specs.Handler.{served, stateOf};
+ghost use Rattle.firmware.specs.Window.{windowOutcome};
 ghost use Rattle.trace.specs.Run.{levelTaken, runOf};
-ghost use Rattle.trace.specs.Window.{ranIn, runOutcome, runInOf};
+ghost use Rattle.trace.specs.Window.{ranIn, runInOf};
 use firmware::State;
 use mssp::Module;
 use refusals::Refusal;
@@ -66,7 +67,7 @@ fn run_part(s: State, buffer: &mut [u8], start: usize, n: usize, items: &[u8]) -
 
 // A run over a window of the caller's buffer. Refused with 5, then with 4, it changes nothing.
 pub fn run_in(s: State, buffer: &mut [u8], start: u64, n: u64, items: &[u8]) -> Ran
-    ensures { λ r. ⌜ runOutcome (r .verdict) (r .item) (r .state) (now (buffer .exit)) ≡ runInOf s (now (buffer .entry)) start n (now (items .entry)) ⌝ }
+    ensures { λ r. ⌜ windowOutcome (r .verdict) (r .item) (r .state) (now (buffer .exit)) ≡ runInOf s (now (buffer .entry)) start n (now (items .entry)) ⌝ }
 {
     let wanted = s.handler.n;
     if !firmware::window_fits(buffer.len(), start, n, wanted) {

@@ -11,7 +11,7 @@ use Rattle.refusals.specs.declared.Verdict.{Verdict}
 use Rattle.refusals.specs.declared.Verdict.the-variants.{Done, Refused}
 use Rattle.mssp.specs.declared.Config.{Config}
 use Rattle.mssp.specs.declared.Module.{Module}
-use Rattle.mssp.specs.Module.{moduleOf, configOf, modelled, setADD, setMSK, setCKP, setSSPOV, setSSPIF}
+use Rattle.mssp.specs.Module.{moduleOf, modelled, setSTAT, setCON1, setCON2, setCON3, setADD, setMSK, setCKP, setSSPOV, setSSPIF}
 use Rattle.effects.specs.Effects.{loaded, released, disabled}
 use Rattle.registers.specs.Values.{registerOf, accessOf}
 use Rattle.registers.specs.declared.Register.{Register}
@@ -20,13 +20,11 @@ use Rattle.registers.specs.declared.Access.{Access}
 
 -- STAT takes SMP and CKE.
 abbrev pub statWritten : ℕ → Config → Config
-statWritten v c =
-    configOf (bit 7 v) (bit 6 v) (c .wcol) (c .sspen) (c .sspm3) (c .sspm2) (c .sspm1) (c .sspm0) (c .gcen) (c .ackdt) (c .sen) (c .pcie) (c .scie) (c .sdaht) (c .sbcde) (c .ahen) (c .dhen) (c .add) (c .msk)
+statWritten v c = setSTAT (bit 7 v) (bit 6 v) c
 
 -- CON1's bits: WCOL and SSPOV are only cleared, SSPEN, CKP and SSPM taken.
 abbrev pub con1Config : ℕ → Config → Config
-con1Config v c =
-    configOf (c .smp) (c .cke) (c .wcol && bit 7 v) (bit 5 v) (bit 3 v) (bit 2 v) (bit 1 v) (bit 0 v) (c .gcen) (c .ackdt) (c .sen) (c .pcie) (c .scie) (c .sdaht) (c .sbcde) (c .ahen) (c .dhen) (c .add) (c .msk)
+con1Config v c = setCON1 (c .wcol && bit 7 v) (bit 5 v) (bit 3 v) (bit 2 v) (bit 1 v) (bit 0 v) c
 
 abbrev pub con1Stored : ℕ → Module → Module
 con1Stored v m =
@@ -44,13 +42,11 @@ con1Written v m = con1Then (m .config .sspen && not (bit 5 v)) (bit 4 v) (con1St
 
 -- CON2 takes GCEN, ACKDT and SEN; ACKSTAT ignores writes.
 abbrev pub con2Written : ℕ → Config → Config
-con2Written v c =
-    configOf (c .smp) (c .cke) (c .wcol) (c .sspen) (c .sspm3) (c .sspm2) (c .sspm1) (c .sspm0) (bit 7 v) (bit 5 v) (bit 0 v) (c .pcie) (c .scie) (c .sdaht) (c .sbcde) (c .ahen) (c .dhen) (c .add) (c .msk)
+con2Written v c = setCON2 (bit 7 v) (bit 5 v) (bit 0 v) c
 
 -- CON3 takes PCIE, SCIE, SDAHT, SBCDE, AHEN and DHEN; ACKTIM ignores writes.
 abbrev pub con3Written : ℕ → Config → Config
-con3Written v c =
-    configOf (c .smp) (c .cke) (c .wcol) (c .sspen) (c .sspm3) (c .sspm2) (c .sspm1) (c .sspm0) (c .gcen) (c .ackdt) (c .sen) (bit 6 v) (bit 5 v) (bit 3 v) (bit 2 v) (bit 1 v) (bit 0 v) (c .add) (c .msk)
+con3Written v c = setCON3 (bit 6 v) (bit 5 v) (bit 3 v) (bit 2 v) (bit 1 v) (bit 0 v) c
 
 -- SSPIF is only cleared; the other bits of the flag register ignore writes.
 abbrev pub flagWritten : ℕ → Module → Module

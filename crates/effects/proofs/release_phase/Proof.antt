@@ -9,8 +9,7 @@ release-phase-spec =
     (tie.spec
     (λ c. search needs) (λ c. search needs) (λ c. search needs) (λ c. search needs) (λ c. search needs)
     (λ c. search needs) (λ c. search needs) (λ c. search needs) (λ c. search needs) (λ c. search needs)
-    (λ c. simp (c .before .phase .given .1))
-    (λ c. simp (c .before .phase2 .given .1))
+    (λ c. simp (c .before .phase .given .1)) (λ c. simp (c .before .phase2 .given .1))
     (λ c. search needs)
     (λ c. simp (c .enum-told4 .given .1))
     (λ c. search needs) (λ c. search needs))

@@ -4,7 +4,7 @@ use mathlib.Core.Path.{ap}
 use Rattle.image.specs.Image.{stateIn}
 use Rattle.image.specs.Theorems.{image-length}
 use Rattle.settling.specs.Laws.{no-image, of-state}
-use Rattle.firmware_calls.specs.Laws.{run-settled}
+use Rattle.firmware_calls.specs.Laws.{work-settled}
 use Rattle.firmware_calls.proofs.run.Statement.{statement}
 use Rattle.firmware_calls.proofs.run.Tie as tie
 
@@ -14,7 +14,7 @@ what-the-run-leaves c =
     let worked = settle .before .before .before .before .before .before in
     let is = worked .before .before .before .s .given .1 in
     let decoded = worked .before .before .before .before .before .decode .ensures in
-    of-state decoded _ _ (ap stateIn is) (run-settled _ _ _ (image-length _ _ decoded is) (settle .before .before .before .encode .ensures) (worked .run-in .ensures) (settle .settle .ensures))
+    of-state decoded _ _ (ap stateIn is) (work-settled _ _ _ (image-length _ _ decoded is) (settle .before .before .before .encode .ensures) (worked .run-in .ensures) (settle .settle .ensures))
 
 pub run-spec : {M : Type 1} → statement M
 run-spec =

@@ -15,7 +15,5 @@ value-spec =
     (λ c. simp (c .before .enum-told3 .given .1) (c .con1 .ensures))
     (λ c. simp (c .before .enum-told4 .given .1) (c .con2 .ensures))
     (λ c. simp (c .before .enum-told5 .given .1) (c .con3 .ensures))
-    (λ c. simp (c .enum-told6 .given .1))
-    (λ c. simp (c .enum-told7 .given .1))
-    (λ c. simp (c .before .enum-told8 .given .1))
+    (λ c. simp (c .enum-told6 .given .1)) (λ c. simp (c .enum-told7 .given .1)) (λ c. simp (c .before .enum-told8 .given .1))
     (λ c. simp (c .enum-told9 .given .1)))

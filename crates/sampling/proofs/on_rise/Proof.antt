@@ -20,6 +20,5 @@ on-rise-spec =
     (λ c. simp (c .before .before .phase2 .given .1, c .data-rise .ensures))
     (λ c. simp (c .enum-told2 .given .1))
     slot-ends-acktim
-    (λ c. simp (c .enum-told4 .given .1))
-    (λ c. simp (c .enum-told5 .given .1))
+    (λ c. simp (c .enum-told4 .given .1)) (λ c. simp (c .enum-told5 .given .1))
     ackstat-is-sda)

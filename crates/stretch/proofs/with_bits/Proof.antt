@@ -9,6 +9,5 @@ with-bits-spec =
     (tie.spec
     (λ c. search needs) (λ c. search needs) (λ c. search needs) (λ c. search needs) (λ c. search needs)
     (λ c. search needs) (λ c. search needs) (λ c. search needs) (λ c. search needs)
-    (λ c. simp (c .enum-told2 .given .1))
-    (λ c. simp (c .before .phase .given .1))
+    (λ c. simp (c .enum-told2 .given .1)) (λ c. simp (c .before .phase .given .1))
     (λ c. search needs) (λ c. search needs) (λ c. search needs) (λ c. search needs) (λ c. search needs))

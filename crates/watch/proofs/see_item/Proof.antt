@@ -13,7 +13,5 @@ see-item-spec =
     (λ c. search needs) (λ c κs. search needs) (λ c. search needs) (λ c. search needs) (λ c. search needs)
     (λ c. search needs)
     sample-seen
-    (λ c. simp (c .enum-told .given .1))
-    (λ c. simp (c .enum-told2 .given .1))
-    (λ c. simp (c .enum-told3 .given .1))
+    (λ c. simp (c .enum-told .given .1)) (λ c. simp (c .enum-told2 .given .1)) (λ c. simp (c .enum-told3 .given .1))
     (λ c. simp (c .enum-told4 .given .1)))

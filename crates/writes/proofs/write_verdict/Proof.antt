@@ -16,12 +16,9 @@ write-verdict-spec =
     (λ c. search needs) (λ c. search needs) (λ c. search needs) (λ c κs. search needs) (λ c κs. search needs)
     (λ c. search needs) (λ c κs. search needs) (λ c. search needs) (λ c κs. search needs) (λ c. search needs)
     (λ c. search needs) (λ c. search needs) (λ c. search needs)
-    (λ c. simp (c .enum-told .given .1))
-    (λ c. simp (c .enum-told2 .given .1))
+    (λ c. simp (c .enum-told .given .1)) (λ c. simp (c .enum-told2 .given .1))
     mode-is-modelled
     (λ c. simp (c .before .enum-told4 .given .1) (c .pick-verdict2 .ensures))
     boen-is-reserved
-    (λ c. simp (c .enum-told6 .given .1))
-    (λ c. simp (c .enum-told7 .given .1))
-    (λ c. simp (c .enum-told8 .given .1))
+    (λ c. simp (c .enum-told6 .given .1)) (λ c. simp (c .enum-told7 .given .1)) (λ c. simp (c .enum-told8 .given .1))
     (λ c. simp (c .enum-told9 .given .1)))
