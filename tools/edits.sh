@@ -37,12 +37,17 @@ contracts() { # contracts CRATE
     done
 }
 
+# A log with each error on one line: what it says further stands set in on the lines below it.
+in_one_line() { # in_one_line LOG
+    awk '/^[[:space:]]/ { printf " %s", $0; next } { printf "%s%s", NR > 1 ? "\n" : "", $0 } END { print "" }' "$1"
+}
+
 # The errors in a log that stand in the proof of a function, or at a law.
 errors_at() { # errors_at CRATE PLACE LOG
     if grep -qE "^ *(pub )?(extern \"C\" )?fn $2\(" "crates/$1"/src/*.rt; then
-        grep -E "/proofs/([a-z_]+/)?\+?$2/[^ ]*: error: " "$3"
+        in_one_line "$3" | grep -E "/proofs/([a-z_]+/)?\+?$2/[^ ]*: error: "
     else
-        grep -E "/(specs|proofs)/[^ ]*: error: \`$2\`: " "$3"
+        in_one_line "$3" | grep -E "/(specs|proofs)/[^ ]*: error: \`$2\`: "
     fi
 }
 
