@@ -37,9 +37,10 @@ contracts() { # contracts CRATE
     done
 }
 
-# A log with each error on one line: what it says further stands set in on the lines below it.
+# A log with each error on one line: what it says further stands set in on the lines below it. Advice on how a type is printed
+# is left out.
 in_one_line() { # in_one_line LOG
-    awk '/^[[:space:]]/ { printf " %s", $0; next } { printf "%s%s", NR > 1 ? "\n" : "", $0 } END { print "" }' "$1"
+    awk '/is not in scope here, so what is shown/ { next } /^[[:space:]]/ { printf " %s", $0; next } { printf "%s%s", (NR > 1 ? "\n" : ""), $0 } END { print "" }' "$1"
 }
 
 # The errors in a log that stand in the proof of a function, or at a law.
