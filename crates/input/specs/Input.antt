@@ -9,7 +9,7 @@ use Rattle.wire.specs.Wire.{sclOf, sdaOf}
 use Rattle.steps.specs.declared.Item.{Item}
 use Rattle.steps.specs.declared.Item.the-variants.{Sample, Call}
 use Rattle.input.specs.declared.Meaning.{Meaning}
-use Rattle.input.specs.declared.Meaning.the-variants.{Skipped, Taken, Foreign}
+use Rattle.input.specs.declared.Meaning.the-variants.{Skipped, AnItem, Foreign}
 use Rattle.input.specs.declared.Checked.{Checked}
 use Rattle.input.specs.declared.Checked.the-variants.{Whole, Cut}
 
@@ -17,9 +17,9 @@ use Rattle.input.specs.declared.Checked.the-variants.{Whole, Cut}
 abbrev pub meaningOf : ℕ → Meaning
 meaningOf byte =
     cond (eqb byte (code " ") || eqb byte (code "\n")) Skipped
-    (cond (eqb byte (code "h")) (Taken Call)
+    (cond (eqb byte (code "h")) (AnItem Call)
     (cond (ltb byte (code "0") || ltb (code "3") byte) Foreign
-    (Taken (Sample (sclOf (byte - code "0")) (sdaOf (byte - code "0"))))))
+    (AnItem (Sample (sclOf (byte - code "0")) (sdaOf (byte - code "0"))))))
 
 -- All the items, or how many come before the first foreign byte.
 pub data Parsed : Type 0 where
@@ -29,8 +29,8 @@ pub data Parsed : Type 0 where
 -- One byte in front of a parsed text.
 abbrev pub before : Meaning → Parsed → Parsed
 before Skipped p = p
-before (Taken item) (all items) = all (item ∷ items)
-before (Taken item) (foreign n) = foreign (suc n)
+before (AnItem item) (all items) = all (item ∷ items)
+before (AnItem item) (foreign n) = foreign (suc n)
 before Foreign p = foreign 0
 
 unfoldable pub parse : List ℕ → Parsed
@@ -47,12 +47,12 @@ checkedOf input = checked (parse input)
 
 abbrev pub isForeign : Meaning → Bool
 isForeign Skipped = false
-isForeign (Taken item) = false
+isForeign (AnItem item) = false
 isForeign Foreign = true
 
 abbrev pub itemCount : Meaning → ℕ
 itemCount Skipped = 0
-itemCount (Taken item) = 1
+itemCount (AnItem item) = 1
 itemCount Foreign = 0
 
 -- Without a foreign byte; and the items then.

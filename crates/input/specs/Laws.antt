@@ -9,7 +9,7 @@ use native.Mathlib.Nat.{add-zero}
 use lib.ListN.{length, drop, getD, drop-of-length-le}
 use lib.Seq.{drop-cons}
 use Rattle.input.specs.declared.Meaning.{Meaning}
-use Rattle.input.specs.declared.Meaning.the-variants.{Skipped, Taken, Foreign}
+use Rattle.input.specs.declared.Meaning.the-variants.{Skipped, AnItem, Foreign}
 use Rattle.input.specs.declared.Checked.{Checked}
 use Rattle.input.specs.declared.Checked.the-variants.{Whole, Cut}
 use Rattle.input.specs.Input.{Parsed, all, foreign, meaningOf, before, parse, checked, checkedOf, isForeign, itemCount, clean}
@@ -40,18 +40,18 @@ counted-start (foreign k) = ap Cut (omega arith)
 
 counted-more : (n : ℕ) (m : Meaning) (p : Parsed) → isForeign m ≡ false → counted n (before m p) ≡ counted (n + itemCount m) p
 counted-more n Skipped p h = rw add-zero
-counted-more n (Taken item) (all items) h = ap Whole (omega arith)
-counted-more n (Taken item) (foreign k) h = ap Cut (omega arith)
+counted-more n (AnItem item) (all items) h = ap Whole (omega arith)
+counted-more n (AnItem item) (foreign k) h = ap Cut (omega arith)
 counted-more n Foreign p h = absurd (true≢false h)
 
 counted-cut : (n : ℕ) (m : Meaning) (p : Parsed) → isForeign m ≡ true → counted n (before m p) ≡ Cut n
 counted-cut n Skipped p h = absurd (true≢false (sym h))
-counted-cut n (Taken item) p h = absurd (true≢false (sym h))
+counted-cut n (AnItem item) p h = absurd (true≢false (sym h))
 counted-cut n Foreign p h = ap Cut (omega arith)
 
 pub count-at-most : (m : Meaning) → itemCount m ≤ 1
 count-at-most Skipped = omega arith
-count-at-most (Taken item) = omega arith
+count-at-most (AnItem item) = omega arith
 count-at-most Foreign = omega arith
 
 pub check-start : (input : List ℕ) → counted 0 (parse (drop 0 input)) ≡ checkedOf input
@@ -76,8 +76,8 @@ found (foreign n) = n
 
 found-more : (m : Meaning) (p : Parsed) → found (before m p) ≤ suc (found p)
 found-more Skipped p = omega arith
-found-more (Taken item) (all items) = omega arith
-found-more (Taken item) (foreign n) = omega arith
+found-more (AnItem item) (all items) = omega arith
+found-more (AnItem item) (foreign n) = omega arith
 found-more Foreign p = omega arith
 
 pub found-short : (input : List ℕ) → found (parse input) ≤ length input

@@ -6,7 +6,7 @@ use steps::Item;
 // What a byte of the input is: passed over, an item, or neither.
 pub enum Meaning {
     Skipped,
-    Taken(Item),
+    AnItem(Item),
     Foreign,
 }
 
@@ -23,13 +23,13 @@ pub fn meaning_of(byte: u8) -> Meaning
         return Meaning::Skipped;
     }
     if byte == b'h' {
-        return Meaning::Taken(Item::Call);
+        return Meaning::AnItem(Item::Call);
     }
     if (byte < b'0') | (b'3' < byte) {
         return Meaning::Foreign;
     }
     let level = byte - b'0';
-    Meaning::Taken(Item::Sample(level / 2 % 2 == 1, level / 1 % 2 == 1))
+    Meaning::AnItem(Item::Sample(level / 2 % 2 == 1, level / 1 % 2 == 1))
 }
 
 fn is_foreign(meaning: Meaning) -> bool
@@ -37,7 +37,7 @@ fn is_foreign(meaning: Meaning) -> bool
 {
     match meaning {
         Meaning::Skipped => false,
-        Meaning::Taken(_) => false,
+        Meaning::AnItem(_) => false,
         Meaning::Foreign => true,
     }
 }
@@ -48,7 +48,7 @@ fn item_count(meaning: Meaning) -> usize
 {
     match meaning {
         Meaning::Skipped => 0,
-        Meaning::Taken(_) => 1,
+        Meaning::AnItem(_) => 1,
         Meaning::Foreign => 0,
     }
 }

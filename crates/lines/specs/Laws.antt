@@ -12,7 +12,7 @@ use Rattle.firmware.specs.Handler.{setupOf}
 use Rattle.reader.specs.Reader.{readerAfresh}
 use Rattle.steps.specs.declared.Item.{Item}
 use Rattle.input.specs.declared.Meaning.{Meaning}
-use Rattle.input.specs.declared.Meaning.the-variants.{Skipped, Taken, Foreign}
+use Rattle.input.specs.declared.Meaning.the-variants.{Skipped, AnItem, Foreign}
 use Rattle.input.specs.declared.Checked.the-variants.{Whole, Cut}
 use Rattle.input.specs.Input.{Parsed, all, foreign, meaningOf, before, parse, checked, checkedOf, clean, itemsIn}
 use Rattle.input.specs.Laws.{parse-byte, parse-end, found-whole, found-cut}
@@ -54,8 +54,8 @@ finished-byte :
     × (finished (bytePassed run memory output m) (itemsIn p) ≡ finished (progress run memory output) (itemsIn (before m p)))
 unfolding linesFrom
 finished-byte run memory output Skipped p h = (h, refl)
-finished-byte run memory output (Taken x) (all xs) h = (refl, penned-joined _ _ (page (run .at) output))
-finished-byte run memory output (Taken x) (foreign n) h = absurd (true≢false (sym h))
+finished-byte run memory output (AnItem x) (all xs) h = (refl, penned-joined _ _ (page (run .at) output))
+finished-byte run memory output (AnItem x) (foreign n) h = absurd (true≢false (sym h))
 finished-byte run memory output Foreign p h = absurd (true≢false (sym h))
 
 module _ (input : List ℕ) (i : ℕ) (run : Run) (memory output : List ℕ) where

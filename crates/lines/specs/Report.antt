@@ -8,7 +8,7 @@ use Rattle.refusals.specs.declared.Refusal.the-variants.{NoItem}
 use Rattle.refusals.specs.Numbers.{numberOf}
 use Rattle.steps.specs.declared.Item.{Item}
 use Rattle.input.specs.declared.Meaning.{Meaning}
-use Rattle.input.specs.declared.Meaning.the-variants.{Skipped, Taken, Foreign}
+use Rattle.input.specs.declared.Meaning.the-variants.{Skipped, AnItem, Foreign}
 use Rattle.input.specs.Input.{Parsed, all, foreign, parse}
 use Rattle.watch.specs.declared.World.{World}
 use Rattle.watch.specs.Watch.{Scene, sceneAfter, worldAfresh, memoryAfresh}
@@ -56,5 +56,5 @@ itemPassed run memory output x =
 
 abbrev pub bytePassed : Run → List ℕ → List ℕ → Meaning → Progress
 bytePassed run memory output Skipped = progress run memory output
-bytePassed run memory output (Taken x) = itemPassed run memory output x
+bytePassed run memory output (AnItem x) = itemPassed run memory output x
 bytePassed run memory output Foreign = progress run memory output

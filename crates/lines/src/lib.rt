@@ -54,7 +54,7 @@ fn pass(run: Run, memory: &mut [u8], output: &mut [u8], byte: u8) -> Run
     let here = input::meaning_of(byte);
     match here {
         Meaning::Skipped => run,
-        Meaning::Taken(item) => pass_item(run, memory, output, item),
+        Meaning::AnItem(item) => pass_item(run, memory, output, item),
         Meaning::Foreign => run,
     }
 }

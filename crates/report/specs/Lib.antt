@@ -1,1 +1,1 @@
-pub mod Got
+pub mod StandardInput

@@ -3,34 +3,34 @@ ghost use Prim.Native.Nat.{_≤_};
 ghost use mathlib.Core.Path.{_≡_};
 ghost use lib.ListN.{length};
 ghost use Rattle.io.specs.Counts.{Counts};
-ghost use Rattle.report.specs.Got.{Within};
+ghost use Rattle.report.specs.StandardInput.{Within};
 use libc::STDERR_FILENO;
 use libc::STDIN_FILENO;
 use libc::STDOUT_FILENO;
 
 // What came in: so many bytes, all there are or a full buffer; or a read failed.
-enum Got {
+enum StandardInput {
     Bytes(usize),
     Failed,
 }
 
 // Reads on after every short read, until the buffer is full or the input ends.
-fn read_all(buffer: &mut [u8]) -> Got
+fn read_all(buffer: &mut [u8]) -> StandardInput
     ensures { λ r. ⌜ Within r (now (buffer .exit)) ⌝ }
 {
     let mut done = 0;
     while done < buffer.len() {
         let got = libc::read(STDIN_FILENO, &mut buffer[done..]);
         if got < 0 {
-            return Got::Failed;
+            return StandardInput::Failed;
         }
         let more = io::count(got, &buffer[done..]);
         if more == 0 {
-            return Got::Bytes(done);
+            return StandardInput::Bytes(done);
         }
         done += more;
     }
-    Got::Bytes(done)
+    StandardInput::Bytes(done)
 }
 
 // Room for every report.
@@ -55,7 +55,7 @@ fn answer(input: &[u8]) {
 fn main() {
     let mut input = io::large_buffer();
     match read_all(&mut input) {
-        Got::Bytes(long) => answer(&input[..long]),
-        Got::Failed => tell(b"report: standard input could not be read\n"),
+        StandardInput::Bytes(long) => answer(&input[..long]),
+        StandardInput::Failed => tell(b"report: standard input could not be read\n"),
     }
 }

@@ -1,7 +1,7 @@
 -- `report::main` meets its contract.
 use borrow.Author.Needs.{needs}
 use native.Mathlib.Omega.{arith}
-use Rattle.report.specs.Got.{within}
+use Rattle.report.specs.StandardInput.{within}
 use Rattle.report.proofs.main.Statement.{statement}
 use Rattle.report.proofs.main.Tie as tie
 
