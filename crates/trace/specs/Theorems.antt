@@ -1,6 +1,6 @@
 -- What a run leaves alone, said without its code: the window keeps its length, and the buffer its other bytes.
 use Prim.Native.Nat.{ℕ, _+_, _≤_}
-use mathlib.Core.Path.{_≡_, refl, sym, ap, _∙_}
+use mathlib.Core.Path.{_≡_, refl, sym, _∙_}
 use mathlib.Core.Bool.{Bool, true, false}
 use mathlib.Core.List.{List, [], _∷_, _++_}
 use native.Mathlib.Omega.{arith}
@@ -9,7 +9,7 @@ use lib.ListN.{length, take, drop, length-set, length-drop}
 use lib.Seq.{length-take-le, take-at, drop-at, drop-drop}
 use Rattle.memory.specs.Memory.{Memory, put}
 use Rattle.firmware.specs.declared.State.{State}
-use Rattle.firmware.specs.Handler.{Served, served, acknowledged, memoryIn, serve, calledIf, called}
+use Rattle.firmware.specs.Handler.{acknowledged, memoryIn, serve, calledIf, called}
 use Rattle.firmware.specs.Window.{windowOf, splice}
 use Rattle.steps.specs.Step.{afterAll}
 use Rattle.trace.specs.Run.{byteStepIf, byteStep, runOf}
