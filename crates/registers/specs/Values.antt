@@ -27,6 +27,18 @@ registerOf number =
     (cond (eqb number 6) Msk
     (cond (eqb number 7) Flag Nowhere)))))))
 
+-- The number of a register; what is none has the first that no register has. Which register it is, is asked by it.
+abbrev pub registerNumber : Register → ℕ
+registerNumber Buf = 0
+registerNumber Stat = 1
+registerNumber Con1 = 2
+registerNumber Con2 = 3
+registerNumber Con3 = 4
+registerNumber Add = 5
+registerNumber Msk = 6
+registerNumber Flag = 7
+registerNumber Nowhere = 8
+
 -- What a register holds. Of the flag register only SSPIF is not 0.
 abbrev pub valueOf : Config → Live → Register → ℕ
 valueOf c l Buf = l .buf

@@ -1,4 +1,5 @@
--- What a write takes, what it does beside that, and why it is refused (01, "Register numbers" and refusals 1 to 3).
+-- What a write takes, what it does beside that, and why it is refused (01, "Register numbers" and refusals 1 to 3;
+-- 02, 6).
 use Prim.Native.Nat.{ℕ, _/_, _%_}
 use mathlib.Core.Bool.{Bool, true, false, cond, _&&_, not}
 use mathlib.Core.List.{List, [], _∷_}
@@ -6,14 +7,15 @@ use lib.Dec.{eqb}
 use Rattle.wire.specs.Byte.{bit}
 use Rattle.refusals.specs.Numbers.{accepted}
 use Rattle.refusals.specs.declared.Refusal.{Refusal}
-use Rattle.refusals.specs.declared.Refusal.the-variants.{NoRegister, ReservedBit, NoMode}
+use Rattle.refusals.specs.declared.Refusal.the-variants.{NoRegister, ReservedBit, NoMode, ModeChange}
 use Rattle.refusals.specs.declared.Verdict.{Verdict}
 use Rattle.refusals.specs.declared.Verdict.the-variants.{Done, Refused}
 use Rattle.mssp.specs.declared.Config.{Config}
 use Rattle.mssp.specs.declared.Module.{Module}
 use Rattle.mssp.specs.Module.{moduleOf, modelled, setSTAT, setCON1, setCON2, setCON3, setADD, setMSK, setCKP, setSSPOV, setSSPIF}
 use Rattle.effects.specs.Effects.{loaded, released, disabled}
-use Rattle.registers.specs.Values.{registerOf, accessOf}
+use Rattle.register_bytes.specs.Bytes.{con1Of}
+use Rattle.registers.specs.Values.{registerOf, registerNumber, accessOf}
 use Rattle.registers.specs.declared.Register.{Register}
 use Rattle.registers.specs.declared.Register.the-variants.{Buf, Stat, Con1, Con2, Con3, Add, Msk, Flag, Nowhere}
 use Rattle.registers.specs.declared.Access.{Access}
@@ -66,41 +68,24 @@ written Msk v m = withConfig (setMSK v (m .config)) m
 written Flag v m = flagWritten v m
 written Nowhere v m = m
 
--- No register has the number.
+-- ---- why a write is refused
 abbrev pub isNowhere : Register → Bool
-isNowhere Buf = false
-isNowhere Stat = false
-isNowhere Con1 = false
-isNowhere Con2 = false
-isNowhere Con3 = false
-isNowhere Add = false
-isNowhere Msk = false
-isNowhere Flag = false
-isNowhere Nowhere = true
+isNowhere r = eqb (registerNumber r) 8
+
+abbrev pub isCON1 : Register → Bool
+isCON1 r = eqb (registerNumber r) 2
 
 -- A bit of the master is set in CON2, or BOEN in CON3.
 abbrev pub setsReserved : Register → ℕ → Bool
-setsReserved Buf v = false
-setsReserved Stat v = false
-setsReserved Con1 v = false
-setsReserved Con2 v = not (eqb (v / 2 % 16) 0)
-setsReserved Con3 v = bit 4 v
-setsReserved Add v = false
-setsReserved Msk v = false
-setsReserved Flag v = false
-setsReserved Nowhere v = false
+setsReserved r v = cond (eqb (registerNumber r) 3) (not (eqb (v / 2 % 16) 0)) (eqb (registerNumber r) 4 && bit 4 v)
 
 -- SSPEN 1 in CON1 with a mode that is not modelled.
-abbrev pub setsNoMode : Register → ℕ → Bool
-setsNoMode Buf v = false
-setsNoMode Stat v = false
-setsNoMode Con1 v = bit 5 v && not (modelled (bit 3 v) (bit 2 v) (bit 1 v) (bit 0 v))
-setsNoMode Con2 v = false
-setsNoMode Con3 v = false
-setsNoMode Add v = false
-setsNoMode Msk v = false
-setsNoMode Flag v = false
-setsNoMode Nowhere v = false
+abbrev pub noMode : ℕ → Bool
+noMode v = bit 5 v && not (modelled (bit 3 v) (bit 2 v) (bit 1 v) (bit 0 v))
+
+-- SSPEN 1 in CON1, which holds it as 1 already, with another SSPM (the low half) than it holds (02, 6). The phase is not asked.
+abbrev pub modeChange : ℕ → ℕ → Bool
+modeChange con1 v = bit 5 con1 && bit 5 v && not (eqb (v % 16) (con1 % 16))
 
 -- The first cause that holds, of causes in their order.
 abbrev pub firstCause : List (Bool × Refusal) → Verdict
@@ -109,7 +94,9 @@ firstCause (cause ∷ rest) = cond (cause .0) (Refused (cause .1)) (firstCause r
 
 -- Why a write is refused, in the paper's order: by the register, the value and the module that it finds.
 abbrev pub writeCauses : Register → ℕ → Module → List (Bool × Refusal)
-writeCauses r v m = (isNowhere r, NoRegister) ∷ (setsReserved r v, ReservedBit) ∷ (setsNoMode r v, NoMode) ∷ []
+writeCauses r v m =
+    (isNowhere r, NoRegister) ∷ (setsReserved r v, ReservedBit) ∷ (isCON1 r && noMode v, NoMode)
+    ∷ (isCON1 r && modeChange (con1Of (m .config) (m .live)) v, ModeChange) ∷ []
 
 abbrev pub verdictOf : Register → ℕ → Module → Verdict
 verdictOf r v m = firstCause (writeCauses r v m)

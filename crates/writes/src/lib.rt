@@ -1,6 +1,7 @@
 // What a write to a register takes, what it does beside that, and which writes are refused.
 ghost use mathlib.Core.Path.{_≡_};
-ghost use Rattle.writes.specs.Writes.{statWritten, con1Stored, con1Written, con2Written, con3Written, flagWritten, withConfig, verdictOf, written, writeOf};
+ghost use Rattle.registers.specs.declared.Register.the-variants.{Con1};
+ghost use Rattle.writes.specs.Writes.{statWritten, con1Stored, con1Written, con2Written, con3Written, flagWritten, withConfig, modeChange, verdictOf, written, writeOf};
 use mssp::Config;
 use mssp::Module;
 use refusals::Refusal;
@@ -97,25 +98,40 @@ fn with_config(m: Module, config: Config) -> Module
     }
 }
 
+// SSPEN stays 1, and SSPM does not stay what CON1 holds.
+fn is_mode_change(con1: u8, v: u8) -> bool
+    ensures { λ r. ⌜ r ≡ modeChange con1 v ⌝ }
+{
+    (con1 / 32 % 2 == 1) & (v / 32 % 2 == 1) & !(v % 16 == con1 % 16)
+}
+
+// A write to CON1: a mode that is not modelled is looked at before a change of mode.
+fn con1_verdict(m: Module, v: u8) -> Verdict
+    ensures { λ r. ⌜ r ≡ verdictOf Con1 v m ⌝ }
+{
+    let modelled = mssp::is_modelled(
+        v / 8 % 2 == 1,
+        v / 4 % 2 == 1,
+        v / 2 % 2 == 1,
+        v / 1 % 2 == 1,
+    );
+    let con1 = register_bytes::con1(m.config, m.live);
+    let no_mode = Verdict::Refused(Refusal::NoMode);
+    let mode_change = Verdict::Refused(Refusal::ModeChange);
+    let running = refusals::pick_verdict(is_mode_change(con1, v), mode_change, Verdict::Done(0));
+    refusals::pick_verdict((v / 32 % 2 == 1) & !modelled, no_mode, running)
+}
+
 // Whether a write to a module is refused, and why: the first cause that holds.
 fn write_verdict(m: Module, register: Register, v: u8) -> Verdict
     ensures { λ r. ⌜ r ≡ verdictOf register v m ⌝ }
 {
     let done = Verdict::Done(0);
     let reserved = Verdict::Refused(Refusal::ReservedBit);
-    let no_mode = Verdict::Refused(Refusal::NoMode);
     match register {
         Register::Buf => done,
         Register::Stat => done,
-        Register::Con1 => {
-            let modelled = mssp::is_modelled(
-                v / 8 % 2 == 1,
-                v / 4 % 2 == 1,
-                v / 2 % 2 == 1,
-                v / 1 % 2 == 1,
-            );
-            refusals::pick_verdict((v / 32 % 2 == 1) & !modelled, no_mode, done)
-        }
+        Register::Con1 => con1_verdict(m, v),
         Register::Con2 => refusals::pick_verdict(!(v / 2 % 16 == 0), reserved, done),
         Register::Con3 => refusals::pick_verdict(v / 16 % 2 == 1, reserved, done),
         Register::Add => done,
