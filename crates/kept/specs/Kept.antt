@@ -6,8 +6,6 @@ use lib.Dec.{T, eqb→eq}
 use Rattle.truth.specs.Tests.{and-both, and-left, and-right, or-left, or-right}
 use Rattle.wire.specs.Byte.{bit}
 use Rattle.wire.specs.Wire.{edgeOf, onWire}
-use Rattle.refusals.specs.declared.Verdict.the-variants.{Done, Refused}
-use Rattle.refusals.specs.declared.Refusal.the-variants.{NoMode}
 use Rattle.refusals.specs.Numbers.{accepted}
 use Rattle.mssp.specs.declared.Phase.{Phase}
 use Rattle.mssp.specs.declared.Phase.the-variants.{Quiet, Address, Data, HeldBefore, Slot, HeldForSending, Sending, MasterAcknowledge}
@@ -21,7 +19,8 @@ use Rattle.sampling.specs.Rules.{seenIf, sampled}
 use Rattle.registers.specs.declared.Register.{Register}
 use Rattle.registers.specs.declared.Register.the-variants.{Buf, Stat, Con1, Con2, Con3, Add, Msk, Flag, Nowhere}
 use Rattle.registers.specs.Values.{registerOf, afterRead, readOf}
-use Rattle.writes.specs.Writes.{con1Config, con1Stored, con1Then, written, verdictOf, writeOf}
+use Rattle.writes.specs.Writes.{con1Config, con1Stored, con1Then, written, writeCauses, verdictOf, writeOf}
+use Rattle.writes.specs.Laws.{none-holds}
 use Rattle.kept.specs.Edges.{edge-stepped, rise-short, eight-kept, mark-kept}
 
 -- ---- set-up
@@ -106,9 +105,9 @@ read-kept Flag m v = v
 read-kept Nowhere m v = v
 
 -- An accepted write to CON1 leaves a mode that is modelled, or the module off.
-accepted-mode : (on fits : Bool) → accepted (cond (on && not fits) (Refused NoMode) (Done 0)) ≡ true → T (not on || fits)
+accepted-mode : (on fits : Bool) → on && not fits ≡ false → T (not on || fits)
 accepted-mode true true h = tt
-accepted-mode true false h = absurd (true≢false (sym h))
+accepted-mode true false h = absurd (true≢false h)
 accepted-mode false fits h = tt
 
 -- CKP 1 ends every hold, and leaves bits and marks as they were.
@@ -201,7 +200,7 @@ write-kept Buf v m a h = same m (written Buf v m) refl refl refl refl refl refl 
 write-kept Stat v m a h = same m (written Stat v m) refl refl refl refl refl refl refl h
 write-kept Con1 v m a h =
     con1-kept (m .config .sspen && not (bit 5 v)) (bit 4 v) v m refl refl
-    (accepted-mode (bit 5 v) (modelled (bit 3 v) (bit 2 v) (bit 1 v) (bit 0 v)) a) h
+    (accepted-mode (bit 5 v) (modelled (bit 3 v) (bit 2 v) (bit 1 v) (bit 0 v)) (none-holds (writeCauses Con1 v m) a .1 .1 .0)) h
 write-kept Con2 v m a h = same m (written Con2 v m) refl refl refl refl refl refl refl h
 write-kept Con3 v m a h = same m (written Con3 v m) refl refl refl refl refl refl refl h
 write-kept Add v m a h = same m (written Add v m) refl refl refl refl refl refl refl h
