@@ -1,5 +1,5 @@
 -- The words of the demands: a host's call, what it answers and leaves at the door and by the definitions, and the causes of each
--- refusal (01, "Calls, refusals and their order").
+-- refusal (01, "Calls, refusals and their order"; 02, 6).
 use Prim.Native.Nat.{ℕ, _+_, _/_, _%_, _<_, _≤_}
 use mathlib.Core.Logic.{_⊎_, _↔_}
 use mathlib.Core.Path.{_≡_}
@@ -9,7 +9,7 @@ use lib.Dec.{T, ltb}
 use lib.ListN.{length, getD}
 use Rattle.items.specs.First.{FirstAbove, NoneAbove}
 use Rattle.refusals.specs.declared.Refusal.{Refusal}
-use Rattle.refusals.specs.declared.Refusal.the-variants.{NoState, NoRegister, ReservedBit, NoMode, NoWindow, NoItem, PastRecord}
+use Rattle.refusals.specs.declared.Refusal.the-variants.{NoState, NoRegister, ReservedBit, NoMode, ModeChange, NoWindow, NoItem, PastRecord}
 use Rattle.refusals.specs.declared.Verdict.{Verdict}
 use Rattle.refusals.specs.declared.Verdict.the-variants.{Done, Refused}
 use Rattle.refusals.specs.Numbers.{numberOf}
@@ -30,7 +30,7 @@ use Rattle.image.specs.Image.{imageLength, validState, encodeOf}
 use Rattle.settling.specs.declared.Answer.{Answer}
 use Rattle.settling.specs.Outcome.{Lent, outcome, lent, done, refused}
 use Rattle.firmware_calls.specs.Calls.{doorSetup, doorCall, doorRun}
-use Rattle.module_calls.specs.Calls.{doorRead, doorWrite, doorSample}
+use Rattle.module_calls.specs.Calls.{doorRead, doorWrite, doorSample, doorLook}
 
 -- ---- a host's calls, over the bytes of one state and one buffer
 pub data DoorCall : Type 0 where
@@ -143,6 +143,15 @@ abbrev pub SetsNoMode : ℕ → ℕ → Type 0
 SetsNoMode number value =
     (number ≡ 2) × (bit 5 value ≡ true) × (value % 16 ≡ 0b0110 → ⊥) × (value % 16 ≡ 0b1110 → ⊥)
 
+-- CON1 as a look shows it.
+abbrev pub shownCON1 : Host → ℕ
+shownCON1 h = doorLook (h .state) .con1
+
+-- CON1 (2) with SSPEN 1 where SSPEN is 1, and another SSPM than the one that stands.
+abbrev pub ChangesMode : Host → ℕ → ℕ → Type 0
+ChangesMode h number value =
+    (number ≡ 2) × (bit 5 (shownCON1 h) ≡ true) × (bit 5 value ≡ true) × (value % 16 ≡ shownCON1 h % 16 → ⊥)
+
 -- A window that is not inside its buffer, or whose length is not the setup's.
 abbrev pub SetUpFor : ℕ → List ℕ → Type 0
 SetUpFor n bytes = (s : State) × ImageOf s bytes × (s .handler .n ≡ n)
@@ -160,7 +169,7 @@ causes h (setUp add n) = (NoState when (length (h .state) ≡ imageLength → �
 causes h (readRegister number) = (NoState when ImageOfNone (h .state)) ∷ (NoRegister when 7 < number) ∷ []
 causes h (writeRegister number value) =
     (NoState when ImageOfNone (h .state)) ∷ (NoRegister when 7 < number) ∷ (ReservedBit when SetsReserved number value)
-    ∷ (NoMode when SetsNoMode number value) ∷ []
+    ∷ (NoMode when SetsNoMode number value) ∷ (ModeChange when ChangesMode h number value) ∷ []
 causes h (feedSample level) = (NoState when ImageOfNone (h .state)) ∷ (NoItem when 3 < level) ∷ []
 causes h (callHandler start n) = (NoState when ImageOfNone (h .state)) ∷ (NoWindow when FitsNot h start n) ∷ []
 causes h (runTrace start n items) =
@@ -193,6 +202,13 @@ Beside (writeRegister number value) item = item ≡ 0
 Beside (feedSample level) item = item ≡ 0
 Beside (callHandler start n) item = item ≡ 0
 Beside (runTrace start n items) item = FirstAbove 4 items item
+
+-- ---- a module that runs on
+-- SSPEN is 1 before every call of a list and after the last, and none of them sets up anew.
+abbrev pub StaysEnabled : Host → List DoorCall → Type 0
+StaysEnabled h [] = bit 5 (shownCON1 h) ≡ true
+StaysEnabled h (c ∷ calls) =
+    (bit 5 (shownCON1 h) ≡ true) × ((add n : ℕ) → c ≡ setUp add n → ⊥) × StaysEnabled (atDoor h c .left) calls
 
 -- ---- a trace through the door
 -- Every byte is an item.

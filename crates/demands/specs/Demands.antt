@@ -1,6 +1,6 @@
 -- The demands, said of the functions that C calls: wherryoar_setup, read, write, sample, call and run, look and find. Statements
 -- alone: their words are in Calls.antt, their proofs in the other files.
-use Prim.Native.Nat.{ℕ, _+_, _<_, _≤_}
+use Prim.Native.Nat.{ℕ, _+_, _%_, _<_, _≤_}
 use mathlib.Core.Path.{_≡_}
 use mathlib.Core.List.{List, [], _∷_, map}
 use lib.ListN.{length}
@@ -19,7 +19,7 @@ use Rattle.settling.specs.Outcome.{done}
 use Rattle.module_calls.specs.Calls.{doorLook}
 use Rattle.door.specs.declared.Part.{Part}
 use Rattle.door.specs.Door.{doorFind}
-use Rattle.demands.specs.Calls.{DoorCall, setUp, readRegister, callHandler, runTrace, Host, answers, leftAfter, Allows, atDoor, byDefinition, ImageOf, causes, lookCauses, findCauses, Exactly, OnlyBeside, Beside, AllItems, Feeds, firmware}
+use Rattle.demands.specs.Calls.{DoorCall, setUp, readRegister, callHandler, runTrace, Host, answers, leftAfter, Allows, atDoor, byDefinition, ImageOf, shownCON1, causes, lookCauses, findCauses, Exactly, OnlyBeside, Beside, StaysEnabled, AllItems, Feeds, firmware}
 
 -- ---- DEMAND 1: every call has one outcome, changes only what it may, and refuses by number, exactly for the causes of the table
 -- Only one answer fits a call's contract, with one state and one buffer. (What look and find answer is an equation as it stands.)
@@ -97,6 +97,12 @@ RunIsCalls =
     → atDoor h (runTrace start n items) .answer .refusal ≡ 0
     → (answers atDoor h calls ≡ map (λ c. done 0) calls)
     × (leftAfter atDoor h calls ≡ atDoor h (runTrace start n items) .left)
+
+-- ---- while SSPEN stays 1, no list of calls changes SSPM, the low four bits of CON1: another mode comes only by disabling or by
+-- a setup
+abbrev pub ModeStays : Type 0
+ModeStays =
+    (h : Host) (calls : List DoorCall) → StaysEnabled h calls → shownCON1 (leftAfter atDoor h calls) % 16 ≡ shownCON1 h % 16
 
 -- ---- after an accepted setup look shows, and reads give, CON1 36, CON2 01, CON3 00, MSK FF (hex) and ADD; the rest is as fresh
 abbrev pub SetupRegisters : Type 0
