@@ -1,12 +1,11 @@
 -- Demand 1: one outcome for every call, nothing changed that may not be, and refusals exactly for their causes.
-use Prim.Native.Nat.{ℕ, zero, suc, _+_, _*_, _/_, _%_, _<_, _≤_}
+use Prim.Native.Nat.{ℕ, zero, suc, _+_, _/_, _%_, _<_, _≤_}
 use mathlib.Core.Logic.{_⊎_, inl, inr, ⊎-elim, _↔_}
 use mathlib.Core.Path.{_≡_, refl, sym, ap, ap₂, subst, _∙_}
 use mathlib.Core.Bool.{Bool, true, false, true≢false, cond, _&&_, not, and-false}
 use mathlib.Core.List.{List, [], _∷_, map}
 use mathlib.Core.Option.{none as absent}
 use native.Mathlib.Omega.{arith}
-use native.Mathlib.Nat.{div-one, div-div-eq-div-mul}
 use lib.Dec.{eqb, leb, ltb}
 use lib.ListN.{length}
 use borrow.Author.Tests.{eqb-true, eqb-false, eq-eqb, ne-eqb, leb-false, lt-leb, ltb-true, ltb-false, lt-ltb, le-ltb, not-true}
@@ -14,17 +13,19 @@ use Rattle.truth.specs.Tests.{never, by-test, and-first, and-second}
 use Rattle.items.specs.First.{firstAbove, FirstAbove}
 use Rattle.items.specs.Theorems.{first-above, none-above}
 use Rattle.refusals.specs.declared.Refusal.{Refusal}
-use Rattle.refusals.specs.declared.Refusal.the-variants.{NoState, ReservedBit, NoMode, NoWindow, NoItem}
+use Rattle.refusals.specs.declared.Refusal.the-variants.{NoState, NoWindow, NoItem}
 use Rattle.refusals.specs.declared.Verdict.{Verdict}
 use Rattle.refusals.specs.declared.Verdict.the-variants.{Done, Refused}
 use Rattle.refusals.specs.Numbers.{numberOf}
 use Rattle.wire.specs.Byte.{bit}
 use Rattle.mssp.specs.declared.Module.{Module}
 use Rattle.mssp.specs.Module.{modelled, setup}
+use Rattle.register_bytes.specs.Bytes.{con1Of}
+use Rattle.register_bytes.specs.Bits.{halfOf, small, half-back}
 use Rattle.registers.specs.declared.Register.{Register}
 use Rattle.registers.specs.declared.Register.the-variants.{Buf, Stat, Con1, Con2, Con3, Add, Msk, Flag, Nowhere}
-use Rattle.registers.specs.Values.{registerOf, valueOf, readVerdict, readOf}
-use Rattle.writes.specs.Writes.{verdictOf, writeOf}
+use Rattle.registers.specs.Values.{registerOf, registerNumber, valueOf, readVerdict, readOf}
+use Rattle.writes.specs.Writes.{isNowhere, isCON1, setsReserved, noMode, modeChange, firstCause}
 use Rattle.firmware.specs.declared.State.{State}
 use Rattle.firmware.specs.declared.Made.the-variants.{Ready, NotMade}
 use Rattle.firmware.specs.Handler.{longestWindow, isWindowLength, Served, served, stateOf, handlerOf}
@@ -54,9 +55,9 @@ use Rattle.module_calls.specs.Calls.{doorLook}
 use Rattle.module_calls.specs.Theorems.{read-keeps, write-keeps, sample-keeps}
 use Rattle.door.specs.declared.Part.{Part as Parted}
 use Rattle.door.specs.Door.{doorFind}
-use Rattle.demands.specs.Calls.{DoorCall, setUp, readRegister, writeRegister, feedSample, callHandler, runTrace, Host, host, reply, atDoor, told, inWindow, hasWindow, byDefinition, ImageOf, ImageOfNone, SetsReserved, SetsNoMode, SetUpFor, FitsNot, SomeAbove, Cause, _when_, causes, lookCauses, findCauses, Numbered, OnlyBeside, Beside}
+use Rattle.demands.specs.Calls.{DoorCall, setUp, readRegister, writeRegister, feedSample, callHandler, runTrace, Host, host, reply, atDoor, told, inWindow, hasWindow, byDefinition, ImageOf, ImageOfNone, SetsReserved, SetsNoMode, ChangesMode, SetUpFor, FitsNot, SomeAbove, Cause, _when_, causes, lookCauses, findCauses, Numbered, OnlyBeside, Beside}
 use Rattle.demands.specs.Demands.{OneOutcome, RefusedKeeps, OutsideKept, ExactCauses, ItemBeside, DemandOne}
-use Rattle.demands.specs.DemandTwo.{image-or-none, by-image}
+use Rattle.demands.specs.DemandTwo.{image-or-none, by-image, shown-is}
 
 pub one-reply : OneOutcome
 one-reply before c r t a b e f = let one = one-lent e f in (one .0, ap₂ host (one .1) (one .2))
@@ -139,6 +140,20 @@ module _ {named : ℕ → Type 0} where
   told-first {list} (Done value) e first = subst (λ (k : ℕ). FirstOf named list k 0) (sym e) first
   told-first {list} (Refused why) e first = subst (λ (k : ℕ). FirstOf named list k 0) (sym e) first
 
+-- Tests in the order of causes, each of which tells whether its cause holds.
+data Tell : List (Bool × Refusal) → List Cause → Type 1 where
+  all : Tell [] []
+  one :
+      {t : Bool} {why : Refusal} {holds : Type 0} {tests : List (Bool × Refusal)} {list : List Cause} → (t ≡ true) ↔ holds
+      → Tell tests list → Tell ((t, why) ∷ tests) ((why when holds) ∷ list)
+
+by-tests :
+    {tests : List (Bool × Refusal)} {list : List Cause} → Tell tests list
+    → FirstOf (λ item. item ≡ 0) list (told (firstCause tests) .refusal) (told (firstCause tests) .item)
+by-tests all = none
+by-tests (one {t = true} tells more) = here (tells .0 refl) (λ e. refl, λ e. refl)
+by-tests (one {t = false} tells more) = later (λ g. never (tells .1 g)) (by-tests more)
+
 no-item : {named : Type 0} (number : ℕ) → (number ≡ 4 → ⊥) → OnlyBeside number named 0
 no-item number other = (λ e. absurd (other e), λ e. refl)
 
@@ -146,8 +161,17 @@ no-item number other = (λ e. absurd (other e), λ e. refl)
 not-equal : (a b : ℕ) → (not (eqb a b) ≡ true) ↔ (a ≡ b → ⊥)
 not-equal a b = (λ t. eqb-false a b (not-true (eqb a b) t), λ other. rw (ne-eqb a b other))
 
+equal : (a b : ℕ) → (eqb a b ≡ true) ↔ (a ≡ b)
+equal a b = (eqb-true a b, eq-eqb a b)
+
 below : (a b : ℕ) → (ltb a b ≡ true) ↔ (a < b)
 below a b = (ltb-true a b, lt-ltb a b)
+
+both : {A B : Type 0} (a b : Bool) → (a ≡ true) ↔ A → (b ≡ true) ↔ B → (a && b ≡ true) ↔ (A × B)
+both a b f g = (λ t. (f .0 (and-first a b t), g .0 (and-second a b t)), λ k. rw (f .1 (k .0)) (g .1 (k .1)))
+
+is-one : (b : Bool) → (b ≡ true) ↔ (b ≡ true)
+is-one b = (λ t. t, λ t. t)
 
 n-outside : (n : ℕ) → (not (isWindowLength n) ≡ true) ↔ ((n ≡ 0) ⊎ (longestWindow < n))
 n-outside n = (
@@ -187,65 +211,31 @@ fits-not h start n s image = (
     same k = sym (k .2) ∙ ap (λ (t : State). t .handler .n) (encode-injective (k .0) s (k .1 .0 ∙ sym (image .0)))
 
 -- SSPM is four bits, and the number that they make.
+half-ours : (b3 b2 b1 b0 : Bool) → (modelled b3 b2 b1 b0 ≡ true) ↔ ((halfOf b3 b2 b1 b0 ≡ 6) ⊎ (halfOf b3 b2 b1 b0 ≡ 14))
+half-ours true true true false = (λ t. inr refl, λ k. refl)
+half-ours false true true false = (λ t. inl refl, λ k. refl)
+half-ours b3 true true true = (λ t. never t, ⊎-elim (λ e. absurd (omega arith)) (λ e. absurd (omega arith)))
+half-ours b3 true false b0 = (λ t. never t, ⊎-elim (λ e. absurd (omega (arith, small b0))) (λ e. absurd (omega (arith, small b0))))
+half-ours b3 false b1 b0 =
+    (λ t. never t, ⊎-elim (λ e. absurd (omega (arith, small b1, small b0))) (λ e. absurd (omega (arith, small b1, small b0))))
+
 ours : (v : ℕ) → (modelled (bit 3 v) (bit 2 v) (bit 1 v) (bit 0 v) ≡ true) ↔ ((v % 16 ≡ 6) ⊎ (v % 16 ≡ 14))
-ours v = (
-  λ t. which (and-first (bit 2 v && bit 1 v) (not (bit 0 v)) t) (and-second (bit 2 v && bit 1 v) (not (bit 0 v)) t),
-  ⊎-elim (λ e. has 0 (omega arith) (omega arith)) (λ e. has 1 (omega arith) (omega arith)),
-)
-  where
-    which : bit 2 v && bit 1 v ≡ true → not (bit 0 v) ≡ true → (v % 16 ≡ 6) ⊎ (v % 16 ≡ 14)
-    which t z =
-        let b2 = eqb-true (v / 4 % 2) 1 (and-first (bit 2 v) (bit 1 v) t) in
-        let b1 = eqb-true (v / 2 % 2) 1 (and-second (bit 2 v) (bit 1 v) t) in
-        let b0 : v % 2 ≡ 1 → ⊥ = rw (div-one v) at (eqb-false (v / 1 % 2) 1 (not-true (bit 0 v) z)) in
-        let sum : v % 16 ≡ v / 8 % 2 * 8 + 6 = omega (arith, div-div-eq-div-mul v 8 2, div-div-eq-div-mul v 4 2, div-div-eq-div-mul v 2 2) in
-        by-test (bit 3 v) (λ b. let b3 = eqb-true (v / 8 % 2) 1 b in inr (omega arith))
-        (λ b. let b3 = eqb-false (v / 8 % 2) 1 b in inl (omega arith))
+ours v = rw (half-back v) at (half-ours (bit 3 v) (bit 2 v) (bit 1 v) (bit 0 v))
 
-    has : (b3 : ℕ) → b3 ≤ 1 → v % 16 ≡ b3 * 8 + 6 → modelled (bit 3 v) (bit 2 v) (bit 1 v) (bit 0 v) ≡ true
-    has b3 h e =
-        let e8 : v / 8 ≡ v / 16 * 2 + b3 = omega arith in
-        let e4 : v / 4 ≡ v / 16 * 4 + b3 * 2 + 1 = omega arith in
-        let e2 : v / 2 ≡ v / 16 * 8 + b3 * 4 + 3 = omega arith in
-        let b2 : v / 4 % 2 ≡ 1 = omega (arith, div-div-eq-div-mul v 4 2) in
-        let b1 : v / 2 % 2 ≡ 1 = omega (arith, div-div-eq-div-mul v 2 2) in
-        let b0 : v % 2 ≡ 1 → ⊥ = λ o. omega arith in
-        rw (eq-eqb (v / 4 % 2) 1 b2, eq-eqb (v / 2 % 2) 1 b1, div-one v, ne-eqb (v % 2) 1 b0)
-
--- The tests of a write.
-abbrev reserves : ℕ → ℕ → Bool
-reserves number v = cond (eqb number 3) (not (eqb (v / 2 % 16) 0)) (eqb number 4 && bit 4 v)
-
-abbrev noMode : ℕ → Bool
-noMode v = bit 5 v && not (modelled (bit 3 v) (bit 2 v) (bit 1 v) (bit 0 v))
-
-reserved : (number v : ℕ) → (reserves number v ≡ true) ↔ SetsReserved number v
-reserved number v = (
-  λ t.
-      by-test (eqb number 3) (λ e. inl (eqb-true number 3 e, not-equal (v / 2 % 16) 0 .0 (rw e at t)))
-      (λ e.
-      let both = rw e at t in
-      inr (eqb-true number 4 (and-first (eqb number 4) (bit 4 v) both), and-second (eqb number 4) (bit 4 v) both)),
-  ⊎-elim (λ k. rw (k .0) (not-equal (v / 2 % 16) 0 .1 (k .1))) (λ k. rw (k .0) (k .1)),
-)
-
-no-mode : (number v : ℕ) → (eqb number 2 && noMode v ≡ true) ↔ SetsNoMode number v
-no-mode number v =
+not-ours :
+    (v : ℕ) → let mode : Bool = modelled (bit 3 v) (bit 2 v) (bit 1 v) (bit 0 v) in
+    (not mode ≡ true) ↔ ((v % 16 ≡ 6 → ⊥) × (v % 16 ≡ 14 → ⊥))
+not-ours v =
     let mode : Bool = modelled (bit 3 v) (bit 2 v) (bit 1 v) (bit 0 v) in (
       λ t.
-          let both = and-second (eqb number 2) (noMode v) t in
-          let other : mode ≡ true → ⊥ = λ m. true≢false (sym m ∙ not-true mode (and-second (bit 5 v) (not mode) both)) in (
-            eqb-true number 2 (and-first (eqb number 2) (noMode v) t),
-            and-first (bit 5 v) (not mode) both,
-            λ six. other (ours v .1 (inl six)),
-            λ fourteen. other (ours v .1 (inr fourteen)),
-          ),
-      λ k. by-test mode (λ t. absurd (⊎-elim (k .2) (k .3) (ours v .0 t))) (λ t. rw (k .0, k .1, t)),
+          let other : mode ≡ true → ⊥ = λ m. true≢false (sym m ∙ not-true mode t) in
+          (λ six. other (ours v .1 (inl six)), λ fourteen. other (ours v .1 (inr fourteen))),
+      λ k. by-test mode (λ t. absurd (⊎-elim (k .0) (k .1) (ours v .0 t))) (λ t. rw t),
     )
 
--- ---- the number of a verdict
+-- ---- a register by its number
 -- What holds of each register with its number, and of every number above 7.
-by-register :
+pub by-register :
     (P : ℕ → Register → Type 0) → P 0 Buf → P 1 Stat → P 2 Con1 → P 3 Con2 → P 4 Con3 → P 5 Add → P 6 Msk → P 7 Flag
     → ((number : ℕ) → 7 < number → P number Nowhere) → (number : ℕ) → P number (registerOf number)
 by-register P p0 p1 p2 p3 p4 p5 p6 p7 above zero = p0
@@ -261,30 +251,62 @@ by-register P p0 p1 p2 p3 p4 p5 p6 p7 above (suc (suc (suc (suc (suc (suc (suc (
     let other : (i : ℕ) → i ≤ 7 → eqb number i ≡ false = λ i h. ne-eqb number i (λ e. omega arith) in
     rw (other 0 (omega arith), other 1 (omega arith), other 2 (omega arith), other 3 (omega arith), other 4 (omega arith), other 5 (omega arith), other 6 (omega arith), other 7 (omega arith)) (above number (omega arith))
 
+register-is : (k number : ℕ) → k ≤ 7 → (eqb (registerNumber (registerOf number)) k ≡ true) ↔ (number ≡ k)
+register-is k number low =
+    by-register (λ n r. (eqb (registerNumber r) k ≡ true) ↔ (n ≡ k))
+    (equal 0 k) (equal 1 k) (equal 2 k) (equal 3 k) (equal 4 k) (equal 5 k) (equal 6 k) (equal 7 k)
+    (λ n high. (λ t. absurd (omega (arith, eqb-true 8 k t)), λ e. absurd (omega arith))) number
+
 read-number : (number held : ℕ) → told (readVerdict (registerOf number) held) .refusal ≡ cond (ltb 7 number) 1 0
 read-number number held =
     by-register (λ n r. told (readVerdict r held) .refusal ≡ cond (ltb 7 n) 1 0) refl refl refl refl refl refl refl refl
     (λ n h. rw (lt-ltb 7 n h)) number
-
-told-if : (t : Bool) (why : Refusal) → told (cond t (Refused why) (Done 0)) .refusal ≡ cond t (numberOf why) 0
-told-if true why = refl
-told-if false why = refl
-
-write-number :
-    (number v : ℕ) (m : Module)
-    → told (verdictOf (registerOf number) v m) .refusal
-    ≡ cond (ltb 7 number) 1 (cond (reserves number v) 2 (cond (eqb number 2 && noMode v) 3 0))
-write-number number v m =
-    by-register
-    (λ n r. told (verdictOf r v m) .refusal ≡ cond (ltb 7 n) 1 (cond (reserves n v) 2 (cond (eqb n 2 && noMode v) 3 0)))
-    refl refl (told-if (noMode v) NoMode) (told-if (not (eqb (v / 2 % 16) 0)) ReservedBit) (told-if (bit 4 v) ReservedBit)
-    refl refl refl (λ n h. rw (lt-ltb 7 n h)) number
 
 sample-number :
     (s : State) (bytes : List ℕ) (level : ℕ) → told (stepOf s bytes (itemIf (ltb level 4) false level) .verdict) .refusal ≡ cond (ltb 3 level) 4 0
 sample-number s bytes level =
     by-test (ltb 3 level) (λ t. let h = ltb-true 3 level t in rw (t, le-ltb level 4 h))
     (λ t. let h = ltb-false 3 level t in rw (t, lt-ltb level 4 (omega arith)))
+
+-- ---- what the tests of a write tell
+module _ (number v : ℕ) where
+  abbrev r : Register
+  r = registerOf number
+
+  con1 : (isCON1 r ≡ true) ↔ (number ≡ 2)
+  con1 = register-is 2 number (omega arith)
+
+  nowhere : (isNowhere r ≡ true) ↔ (7 < number)
+  nowhere =
+      rw (by-register (λ n q. isNowhere q ≡ ltb 7 n) refl refl refl refl refl refl refl refl (λ n h. sym (lt-ltb 7 n h)) number)
+      (below 7 number)
+
+  reserved : (setsReserved r v ≡ true) ↔ SetsReserved number v
+  reserved =
+      let three = register-is 3 number (omega arith) in
+      let boen = both (eqb (registerNumber r) 4) (bit 4 v) (register-is 4 number (omega arith)) (is-one (bit 4 v)) in
+      let master = not-equal (v / 2 % 16) 0 in (
+        λ t. by-test (eqb (registerNumber r) 3) (λ e. inl (three .0 e, master .0 (rw e at t))) (λ e. inr (boen .0 (rw e at t))),
+        ⊎-elim (λ k. rw (three .1 (k .0)) (master .1 (k .1)))
+            (λ k. by-test (eqb (registerNumber r) 3) (λ e. absurd (omega (arith, three .0 e, k .0))) (λ e. rw e (boen .1 k))),
+      )
+
+  no-mode : (isCON1 r && noMode v ≡ true) ↔ SetsNoMode number v
+  no-mode =
+      let on = both (bit 5 v) (not (modelled (bit 3 v) (bit 2 v) (bit 1 v) (bit 0 v))) (is-one (bit 5 v)) (not-ours v) in
+      let all = both (isCON1 r) (noMode v) con1 on in
+      (λ t. let k = all .0 t in (k .0, k .1 .0, k .1 .1 .0, k .1 .1 .1), λ k. all .1 (k .0, (k .1, (k .2, k .3))))
+
+  mode-change :
+      (h : Host) (s : State) → ImageOf s (h .state)
+      → (isCON1 r && modeChange (con1Of (s .mssp .config) (s .mssp .live)) v ≡ true) ↔ ChangesMode h number v
+  mode-change h s image =
+      let held : ℕ = con1Of (s .mssp .config) (s .mssp .live) in
+      let on = both (bit 5 held) (bit 5 v) (is-one (bit 5 held)) (is-one (bit 5 v)) in
+      let other = both (bit 5 held && bit 5 v) (not (eqb (v % 16) (held % 16))) on (not-equal (v % 16) (held % 16)) in
+      let all = both (isCON1 r) (modeChange held v) con1 other in
+      rw (shown-is s h image)
+      (λ t. let k = all .0 t in (k .0, k .1 .0 .0, k .1 .0 .1, k .1 .1), λ k. all .1 (k .0, ((k .1, k .2), k .3)))
 
 -- ---- what each call looks at
 above-looks :
@@ -340,10 +362,8 @@ module _ (h : Host) where
   looked (writeRegister number value) =
       on-image (writeRegister number value) (λ e. rw e)
       (λ s image.
-      told-first (writeOf (s .mssp) number value .verdict) (write-number number value (s .mssp))
-      (tested (ltb 7 number) (below 7 number) (λ e. refl, λ e. refl)
-      (tested (reserves number value) (reserved number value) (λ e. refl, λ e. refl)
-      (tested (eqb number 2 && noMode value) (no-mode number value) (λ e. refl, λ e. refl) none))))
+      by-tests
+      (one (nowhere number value) (one (reserved number value) (one (no-mode number value) (one (mode-change number value h s image) all)))))
   looked (feedSample level) =
       on-image (feedSample level) (λ e. rw e)
       (λ s image.

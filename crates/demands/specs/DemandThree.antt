@@ -12,7 +12,13 @@ use borrow.Author.Tests.{ltb-false, lt-ltb, le-ltb, eq-eqb, le-leb}
 use Rattle.truth.specs.Tests.{by-test}
 use Rattle.items.specs.Theorems.{none-above, none-first}
 use Rattle.refusals.specs.declared.Refusal.the-variants.{NoWindow}
-use Rattle.mssp.specs.Module.{setup}
+use Rattle.wire.specs.Wire.{sclOf, sdaOf, onWire}
+use Rattle.mssp.specs.declared.Config.{Config}
+use Rattle.mssp.specs.declared.Module.{Module}
+use Rattle.mssp.specs.Module.{setup, setWCOL}
+use Rattle.mssp.specs.Drivers.{sclPulled, sdaPulled}
+use Rattle.effects.specs.Effects.{emptied}
+use Rattle.sampling.specs.Rules.{seenIf}
 use Rattle.firmware.specs.declared.State.{State}
 use Rattle.firmware.specs.declared.Made.the-variants.{Ready, NotMade}
 use Rattle.firmware.specs.Handler.{isWindowLength, Served, served, stateOf, handlerOf, acknowledged, serve, calledIf}
@@ -89,26 +95,40 @@ module _ (start n : ℕ) (bytes buffer : List ℕ) (h : start + n ≤ length buf
 splice-own : (start n : ℕ) (buffer : List ℕ) → splice start n (windowOf start n buffer) buffer ≡ buffer
 splice-own start n buffer = rw (take-append-drop n (drop start buffer), take-append-drop start buffer)
 
--- A run keeps the handler's n
-serve-n : (sends da : Bool) (s : State) (bytes : List ℕ) → serve sends da s bytes .state .handler .n ≡ s .handler .n
-serve-n true da s bytes = refl
-serve-n false true s bytes = refl
-serve-n false false s bytes = refl
+-- What no sample and no handler call changes: the handler's n, and the configuration but for WCOL
+abbrev pub standing : State → ℕ × Config
+standing s = (s .handler .n, setWCOL false (s .mssp .config))
 
-called-n : (flag ckp : Bool) (s : State) (bytes : List ℕ) → calledIf flag ckp s bytes .state .handler .n ≡ s .handler .n
-called-n false ckp s bytes = refl
-called-n true true s bytes = refl
-called-n true false s bytes = serve-n (s .mssp .live .rw) (s .mssp .live .da) (acknowledged s) bytes
+seen-stands : (on : Bool) (m : Module) (scl sda : Bool) → seenIf on m scl sda .config ≡ m .config
+seen-stands true m scl sda = refl
+seen-stands false m scl sda = refl
 
-step-n : (level call : Bool) (s : State) (bytes : List ℕ) (item : ℕ) → byteStepIf level call s bytes item .state .handler .n ≡ s .handler .n
-step-n true call s bytes item = refl
-step-n false true s bytes item = called-n (s .mssp .live .sspif) (s .mssp .live .ckp) s bytes
-step-n false false s bytes item = refl
+emptied-stands : (da : Bool) (m : Module) → cond da m (emptied m) .config ≡ m .config
+emptied-stands true m = refl
+emptied-stands false m = refl
 
-run-n : (s : State) (bytes items : List ℕ) → runOf s bytes items .state .handler .n ≡ s .handler .n
+serve-stands : (sends da : Bool) (s : State) (bytes : List ℕ) → standing (serve sends da s bytes .state) ≡ standing s
+serve-stands true da s bytes = rw (emptied-stands (s .mssp .live .da) (s .mssp))
+serve-stands false true s bytes = refl
+serve-stands false false s bytes = refl
+
+called-stands : (flag ckp : Bool) (s : State) (bytes : List ℕ) → standing (calledIf flag ckp s bytes .state) ≡ standing s
+called-stands false ckp s bytes = refl
+called-stands true true s bytes = refl
+called-stands true false s bytes = serve-stands (s .mssp .live .rw) (s .mssp .live .da) (acknowledged s) bytes
+
+pub step-stands : (level call : Bool) (s : State) (bytes : List ℕ) (item : ℕ) → standing (byteStepIf level call s bytes item .state) ≡ standing s
+step-stands true call s bytes item =
+    let m = s .mssp in
+    rw (seen-stands (m .config .sspen) m (onWire (sclPulled (m .phase)) (sclOf item)) (onWire (sdaPulled (m .phase)) (sdaOf item)))
+step-stands false true s bytes item = called-stands (s .mssp .live .sspif) (s .mssp .live .ckp) s bytes
+step-stands false false s bytes item = refl
+
+pub run-stands : (s : State) (bytes items : List ℕ) → standing (runOf s bytes items .state) ≡ standing s
 unfolding afterAll
-run-n s bytes [] = refl
-run-n s bytes (x ∷ xs) = run-n (byteStep s bytes x .state) (byteStep s bytes x .bytes) xs ∙ step-n (ltb x 4) (eqb x 4) s bytes x
+run-stands s bytes [] = refl
+run-stands s bytes (x ∷ xs) =
+    run-stands (byteStep s bytes x .state) (byteStep s bytes x .bytes) xs ∙ step-stands (ltb x 4) (eqb x 4) s bytes x
 
 -- Every item is one.
 none-bad : (items : List ℕ) → AllItems items → ltb (firstBad items) (length items) ≡ false
@@ -145,7 +165,7 @@ module _ (start n : ℕ) where
       left-length = run-length (w .state) (windowOf start n (w .bytes)) xs ∙ window-length start n (w .bytes) within
 
       ran-fits : hasWindow (ranOn w xs) start n ≡ true
-      ran-fits = rw (splice-length start n (left .bytes) (w .bytes) within left-length, run-n (w .state) (windowOf start n (w .bytes)) xs) f
+      ran-fits = rw (splice-length start n (left .bytes) (w .bytes) within left-length, ap (λ (x : ℕ × Config). x .0) (run-stands (w .state) (windowOf start n (w .bytes)) xs)) f
 
       ran-on : (ys : List ℕ) → ranOn (ranOn w xs) ys ≡ ranOn w (xs ++ ys)
       ran-on ys =

@@ -33,6 +33,7 @@ use Rattle.trace.specs.Window.{runInOf, runChoice}
 use Rattle.image.specs.Image.{imageLength, validState, encodeOf, decodeOf}
 use Rattle.image.specs.Laws.{encode-length}
 use Rattle.image.specs.Theorems.{decode-encode, decode-exactly, encode-injective}
+use Rattle.view.specs.declared.View.{View}
 use Rattle.view.specs.View.{viewOf, noView}
 use Rattle.settling.specs.declared.Answer.{Answer}
 use Rattle.settling.specs.Outcome.{Outcome, Lent, lent, refused, settled, settledAccess, noState, byState, byAccess}
@@ -40,9 +41,9 @@ use Rattle.settling.specs.Left.{ImageOfSome}
 use Rattle.settling.specs.Theorems.{stays}
 use Rattle.firmware_calls.specs.Calls.{setupIf, doorSetup, settledWork}
 use Rattle.firmware_calls.specs.Theorems.{setup-keeps}
-use Rattle.module_calls.specs.Calls.{moduleIn, imageWith, levelVerdict}
+use Rattle.module_calls.specs.Calls.{moduleIn, imageWith, levelVerdict, doorLook}
 use Rattle.doorkept.specs.Image.{setup-leaves, read-stays, write-stays, sample-stays, call-stays, run-stays}
-use Rattle.demands.specs.Calls.{DoorCall, setUp, readRegister, writeRegister, feedSample, callHandler, runTrace, Host, host, Reply, reply, answers, leftAfter, atDoor, told, inWindow, madeOf, byDefinition, ImageOf, ImageOfNone}
+use Rattle.demands.specs.Calls.{DoorCall, setUp, readRegister, writeRegister, feedSample, callHandler, runTrace, Host, host, Reply, reply, answers, leftAfter, atDoor, told, inWindow, madeOf, byDefinition, ImageOf, ImageOfNone, shownCON1}
 use Rattle.demands.specs.Demands.{DemandTwo}
 
 -- What a host holds of a state and its buffer, and what it is answered and left of them.
@@ -63,6 +64,10 @@ pub on-state :
     {A : Type 0} (nothing : A) (work : State → A) (s : State) → T (validState s) → byState (decodeOf (encodeOf s)) nothing work ≡ work s
 unfolding byState
 on-state nothing work s v = rw (decode-encode s v)
+
+pub shown-is : (s : State) (h : Host) → ImageOf s (h .state) → shownCON1 h ≡ valueOf (s .mssp .config) (s .mssp .live) Con1
+shown-is s h image =
+    subst (λ (b : List ℕ). doorLook b .con1 ≡ viewOf s .con1) (image .0) (ap (λ (v : View). v .con1) (on-state noView viewOf s (image .1)))
 
 -- ---- one call
 -- A read that is refused leaves the module as it was.

@@ -1,5 +1,5 @@
 -- What a handler call does to the module is what register accesses do.
-use Prim.Native.Nat.{ℕ, _+_}
+use Prim.Native.Nat.{ℕ, _+_, _%_}
 use mathlib.Core.Path.{_≡_, refl, sym, ap, ap₂, subst, _∙_}
 use mathlib.Core.Bool.{Bool, true, false, cond, _&&_, _||_, not, and-false}
 use mathlib.Core.List.{List, [], _∷_}
@@ -7,6 +7,7 @@ use native.Mathlib.Omega.{arith}
 use mir.Val.{boolByte}
 use lib.Dec.{T}
 use lib.ListN.{getD}
+use borrow.Author.Tests.{eq-eqb}
 use Rattle.truth.specs.Tests.{and-left}
 use Rattle.wire.specs.Byte.{bit}
 use Rattle.mssp.specs.declared.Module.{Module}
@@ -14,8 +15,9 @@ use Rattle.mssp.specs.Module.{modelled}
 use Rattle.mssp.specs.Valid.{modeFits, valid}
 use Rattle.mssp.specs.Laws.{clauses}
 use Rattle.effects.specs.Effects.{emptied, loaded, released}
-use Rattle.register_bytes.specs.Bytes.{byteOf}
-use Rattle.register_bytes.specs.Bits.{EightBits, bits-back}
+use Rattle.register_bytes.specs.Bytes.{byteOf, con1Of}
+use Rattle.register_bytes.specs.Bits.{EightBits, bits-back, packed-half, half-back}
+use Rattle.writes.specs.Writes.{modeChange}
 use Rattle.memory.specs.Memory.{peeked}
 use Rattle.firmware.specs.declared.State.{State}
 use Rattle.firmware.specs.Handler.{Served, served, stateOf, memoryIn, acknowledged, serve, calledIf, called}
@@ -51,13 +53,18 @@ mode-ours true true t = refl
 mode-ours true false t = absurd t
 mode-ours false ours t = refl
 
+unchanged : (con1 v : ℕ) → v % 16 ≡ con1 % 16 → modeChange con1 v ≡ false
+unchanged con1 v e = rw (modeChange, eq-eqb (v % 16) (con1 % 16) e, and-false (bit 5 con1 && bit 5 v))
+
 con1-written :
     (m : Module) (v : ℕ) → T (modeFits (m .config))
     → EightBits v (m .config .wcol) (m .live .sspov) (m .config .sspen) true (m .config .sspm3) (m .config .sspm2) (m .config .sspm1) (m .config .sspm0)
     → afterWriting 2 v m ≡ released m
 con1-written m v mode k =
-    let c = m .config in
-    rw (k .is7, k .is6, k .is5, k .is4, k .is3, k .is2, k .is1, k .is0, mode-ours (c .sspen) (modelled (c .sspm3) (c .sspm2) (c .sspm1) (c .sspm0)) mode, not-both (c .sspen), both-same (c .wcol), both-same (m .live .sspov))
+    let c = m .config in let l = m .live in
+    let half = packed-half (c .wcol) (l .sspov) (c .sspen) (l .ckp) (c .sspm3) (c .sspm2) (c .sspm1) (c .sspm0) in
+    let same : v % 16 ≡ con1Of c l % 16 = sym (half-back v) ∙ rw (k .is3, k .is2, k .is1, k .is0) (sym half) in
+    rw (unchanged (con1Of c l) v same, k .is7, k .is6, k .is5, k .is4, k .is3, k .is2, k .is1, k .is0, mode-ours (c .sspen) (modelled (c .sspm3) (c .sspm2) (c .sspm1) (c .sspm0)) mode, not-both (c .sspen), both-same (c .wcol), both-same (m .live .sspov))
 
 ckp-set : (m : Module) → T (modeFits (m .config)) → settingCKP m ≡ released m
 ckp-set m mode =

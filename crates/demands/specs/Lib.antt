@@ -4,3 +4,4 @@ pub mod DemandTwo
 pub mod DemandOne
 pub mod DemandThree
 pub mod HandlerIsFirmware
+pub mod ModeStays

@@ -85,7 +85,7 @@ bits-back b7 b6 b5 b4 b3 b2 b1 b0 =
 abbrev pub halfOf : Bool → Bool → Bool → Bool → ℕ
 halfOf b3 b2 b1 b0 = boolByte b3 * 8 + boolByte b2 * 4 + boolByte b1 * 2 + boolByte b0
 
-small : (b : Bool) → boolByte b ≤ 1
+pub small : (b : Bool) → boolByte b ≤ 1
 small true = omega arith
 small false = omega arith
 
