@@ -1,5 +1,6 @@
 /* Checks through the door the bench examples, the refusals and their order, the state images and the finder. */
 #include "door.h"
+#include "write_refusal.h"
 
 #include <stdio.h>
 #include <string.h>
@@ -286,6 +287,38 @@ static void rule_refused_hold(void)
     expect(now().phase == DOOR_QUIET && reg(FLAG) == 0, "a slot without pull: quiet and no SSPIF");
 }
 
+/* No change of mode under way: refused as a whole, also in a hold with WCOL and SSPOV 1, until the module is disabled. */
+static void rule_mode(void)
+{
+    uint8_t old[DOOR_IMAGE];
+
+    fresh(0x30, 32);
+    expect(is_refusal(door.write(image, DOOR_IMAGE, CON1, 0x3E), 8, 0), "another mode while quiet");
+    put(CON2, 0x00);
+    put(CON3, 0x01);
+    items("320");
+    bits(0x30);
+    items("131");
+    bits(0x44);
+    put(BUF, 0x77);
+    expect(now().phase == DOOR_HELD_BEFORE && reg(CON1) == (WCOL | SSPOV | 0x26), "held with WCOL and SSPOV");
+    memcpy(old, image, DOOR_IMAGE);
+    expect(is_refusal(door.write(image, DOOR_IMAGE, CON1, 0x3E), 8, 0), "another mode in a hold");
+    expect(memcmp(old, image, DOOR_IMAGE) == 0, "the hold, WCOL and SSPOV stay");
+    put(CON1, 0x0E);
+    expect(reg(CON1) == 0x0E && now().phase == DOOR_QUIET && !now().scl_pulled, "disabling with another mode");
+    put(CON1, 0x36);
+    expect(reg(CON1) == 0x36, "enabling with another mode");
+    put(CON1, 0x16);
+    put(CON1, 0x15);
+    expect(reg(CON1) == 0x15, "another mode while off");
+    put(CON1, 0x3E);
+    put(FLAG, 0x00);
+    items("132");
+    expect(reg(CON1) == 0x3E && reg(FLAG) == 1, "the mode 1110 by disabling: SSPIF at a Start");
+    expect(is_refusal(door.write(image, DOOR_IMAGE, CON1, 0x36), 8, 0), "back to 0110 in a message");
+}
+
 /* ---- Readings for states that no trace from setup reaches ---- */
 
 /* A state put together: STAT, CON1, CON3, phase with its three parts, wire; n is 1. */
@@ -354,12 +387,17 @@ static void refusals_single(void)
     expect(is_refusal(door.write(image, 48, CON2, 0x02), 2, 0), "write: master only");
     expect(is_refusal(door.write(image, 48, CON2, 0x10), 2, 0), "write: master only, the highest");
     expect(is_refusal(door.write(image, 48, CON3, 0x10), 2, 0), "write: BOEN");
-    expect(is_refusal(door.write(image, 48, CON1, 0x27), 3, 0), "write: mode");
+    expect(is_refusal(door.write(image, 48, CON1, 0x27), 3, 0), "write: 3 before 8");
+    expect(is_refusal(door.write(image, 48, CON1, 0xEE), 8, 0), "write: 8");
+    expect(is_refusal(door.write(image, 47, CON1, 0xEE), 6, 0), "write: 6 before 8");
     expect(is_refusal(door.sample(image, 47, 4), 6, 0), "sample: 6 before 4");
     expect(is_refusal(door.sample(image, 48, 4), 4, 0), "sample: 4");
     expect(memcmp(old, image, DOOR_IMAGE) == 0, "refusals leave the state");
     put(CON1, 0x17);
     expect(reg(CON1) == 0x17, "any mode with SSPEN 0");
+    expect(is_refusal(door.write(image, 48, CON1, 0x27), 3, 0), "write: 3 while off, with the mode that stands");
+    put(CON1, 0x2E);
+    expect(reg(CON1) == 0x2E, "write: no 8 while off");
 }
 
 /* Refusals of windows and traces, in their order, without a sum that wraps. */
@@ -491,22 +529,30 @@ static void near_image(uint8_t *i)
         i[strange] = (uint8_t)below(256);
 }
 
-/* Any call on the image under check; a state stays a state, and only reads and writes may be refused. */
-static void any_call(unsigned n)
+/* Any call on the image under check; a state stays a state, and only reads and writes are refused, as the paper has it.
+   Answers the refusal. */
+static unsigned any_call(unsigned n)
 {
-    unsigned pick = below(6), number = below(9), value = below(256);
+    unsigned pick = below(6), number = below(9), value = below(256), wanted = 0;
+    uint8_t old[DOOR_IMAGE];
     door_answer a;
 
-    if (pick == 0)
+    memcpy(old, image, DOOR_IMAGE);
+    if (pick == 0) {
+        wanted = number > FLAG;
         a = door.read(image, DOOR_IMAGE, (uint8_t)number);
-    else if (pick == 1)
+    } else if (pick == 1) {
+        wanted = write_refusal(old, number, value);
         a = door.write(image, DOOR_IMAGE, (uint8_t)number, (uint8_t)value);
-    else if (pick == 2)
+    } else if (pick == 2) {
         a = door.call(image, DOOR_IMAGE, buffer, BUFFER, GUARD, n);
-    else
+    } else {
         a = door.sample(image, DOOR_IMAGE, (uint8_t)(value & 3));
+    }
     expect(is_a_state(image), "a state stays a state");
-    expect(a.refusal == 0 || pick < 2, "nothing refused on a state");
+    expect(a.refusal == wanted, "on a state, refused as the paper has it");
+    expect(wanted == 0 || memcmp(old, image, DOOR_IMAGE) == 0, "a refusal leaves the state");
+    return wanted;
 }
 
 /* Whether every field of a view but the refusal is 0. */
@@ -520,7 +566,7 @@ static int is_empty(door_view v)
 static void images(unsigned long rounds)
 {
     static const uint8_t quiet_trace[1] = {3};
-    unsigned long states = 0;
+    unsigned long states = 0, modes = 0;
     uint8_t old[DOOR_IMAGE];
 
     while (rounds-- > 0) {
@@ -532,7 +578,7 @@ static void images(unsigned long rounds)
             states++;
             expect(now().refusal == 0, "look on a state");
             for (i = 0; i < 6; i++)
-                any_call(n);
+                modes += any_call(n) == 8;
             continue;
         }
         expect(now().refusal == 6 && is_empty(now()), "look on no state");
@@ -543,7 +589,8 @@ static void images(unsigned long rounds)
         expect(is_refusal(door.run(image, DOOR_IMAGE, buffer, BUFFER, 0, 1, quiet_trace, 1), 6, 0), "run on no state");
         expect(memcmp(old, image, DOOR_IMAGE) == 0, "no state stays untouched");
     }
-    printf("images that were states %lu\n", states);
+    expect(states > 0 && modes > 0, "states, and changes of their mode");
+    printf("images that were states %lu, changes of mode refused %lu\n", states, modes);
 }
 
 /* ---- The finder ---- */
@@ -626,6 +673,7 @@ int main(void)
     rule_disabling();
     rule_disabling_later();
     rule_refused_hold();
+    rule_mode();
     readings();
     refusals_single();
     refusals_run();

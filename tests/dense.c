@@ -91,7 +91,7 @@ static int take(void *to, unsigned item)
 
 /* ---- Rounds ---- */
 
-/* A fresh state, mostly with other settings than the handler's. */
+/* A fresh state, mostly with other settings than the handler's: switched off, then mostly on again with the mode 1110. */
 static int begin(bench *b)
 {
     static const uint16_t lengths[4] = {1, 2, 255, 256};
@@ -105,7 +105,9 @@ static int begin(bench *b)
     if (!traffic_once_in(t, 3)) {
         refusals |= door.write(b->stepped.image, IMAGE, CON2, (uint8_t)(traffic_below(t, 256) & 0xA1)).refusal;
         refusals |= door.write(b->stepped.image, IMAGE, CON3, (uint8_t)(traffic_below(t, 256) & 0x63)).refusal;
-        refusals |= door.write(b->stepped.image, IMAGE, CON1, traffic_once_in(t, 8) ? 0x16 : 0x3E).refusal;
+        refusals |= door.write(b->stepped.image, IMAGE, CON1, 0x16).refusal;
+        if (!traffic_once_in(t, 8))
+            refusals |= door.write(b->stepped.image, IMAGE, CON1, 0x3E).refusal;
     }
     b->before = b->stepped;
     b->length = 0;

@@ -1,6 +1,7 @@
 /* Mangles images that random traffic reached: each is refused with 6 and left alone by every call, or taken as a state. */
 #include "door.h"
 #include "traffic.h"
+#include "write_refusal.h"
 
 #include <stdio.h>
 #include <stdlib.h>
@@ -12,6 +13,9 @@ enum { REGISTERS = 8, CON1 = 2, FLAG = 7, AT_N = 16 };
 enum { GUARD = 16, SHIFTS = 8, LONGEST = 64, ROOM = GUARD + SHIFTS + LONGEST + GUARD, FILLER = 0x5A };
 
 enum { BUFFER = 320, TRACE = 24, PER_ITEM = 3, EARLIER = 64 };
+
+/* What a call on bytes that are no state's must have, and a write that changes the mode under way. */
+enum { NO_STATE = 6, MODE_UNDER_WAY = 8 };
 
 /* The calls that a mangled image goes through, beside look. */
 enum { SETUP, READ, WRITE, SAMPLE, CALL, RUN };
@@ -35,7 +39,7 @@ typedef struct {
     size_t at;                    /* where in the room the image lies */
     uint8_t buffer[BUFFER];
     uint8_t untouched[BUFFER];    /* the buffer as it was before a call */
-    unsigned long wanted, mutations, taken, refused, calls, failures;
+    unsigned long wanted, mutations, taken, refused, modes, calls, failures;
 } bench;
 
 /* A window with all that a call on it needs. */
@@ -180,45 +184,45 @@ static int well_changed(bench *b, const window *w)
     return fine;
 }
 
-/* Checks a call's answer and what it left, on bytes that are a state's or not. */
-static void check(bench *b, const mangled *m, const window *w, int state, door_answer a, int call)
+/* Checks a call's answer and what it left, by the refusal it must have, 0 for none. */
+static void check(bench *b, const mangled *m, const window *w, unsigned refusal, door_answer a, int call)
 {
-    int fine;
+    int fine = a.refusal == refusal && a.item == 0;
 
-    if (!state)
-        fine = a.refusal == 6 && a.value == 0 && a.item == 0 && left_alone(b);
-    else if (a.refusal != 0)
-        fine = call == WRITE && (a.refusal == 2 || a.refusal == 3) && a.value == 0 && a.item == 0 && left_alone(b);
+    if (refusal != 0)
+        fine = fine && a.value == 0 && left_alone(b);
     else
-        fine = a.item == 0 && (call == READ || a.value == 0) && well_changed(b, w);
+        fine = fine && (call == READ || a.value == 0) && well_changed(b, w);
     if (!fine)
         fail(b, m, names[call]);
 }
 
-/* Register access and a sample. */
-static void single_calls(bench *b, const mangled *m, const window *w, int state)
+/* Register access and a sample; on a state, which has no refusal, the write can still have one. */
+static void single_calls(bench *b, const mangled *m, const window *w, unsigned refusal)
 {
     uint8_t number = (uint8_t)below(b, REGISTERS), value = (uint8_t)below(b, 256), level = (uint8_t)below(b, 4);
+    unsigned written = refusal == 0 ? write_refusal(m->bytes, number, value) : refusal;
 
-    if (!state && below(b, 4) == 0) {
+    if (refusal != 0 && below(b, 4) == 0) {
         number = (uint8_t)(REGISTERS + below(b, 248));
         level = value;
     }
-    check(b, m, w, state, door.read(lay(b, m), m->length, number), READ);
-    check(b, m, w, state, door.write(lay(b, m), m->length, number, value), WRITE);
-    check(b, m, w, state, door.sample(lay(b, m), m->length, level), SAMPLE);
+    b->modes += written == MODE_UNDER_WAY;
+    check(b, m, w, refusal, door.read(lay(b, m), m->length, number), READ);
+    check(b, m, w, written, door.write(lay(b, m), m->length, number, value), WRITE);
+    check(b, m, w, refusal, door.sample(lay(b, m), m->length, level), SAMPLE);
 }
 
 /* A handler call and a run; bytes that are no state's get them with a wrong window and a bad item too. */
-static void window_calls(bench *b, const mangled *m, const window *w, int state)
+static void window_calls(bench *b, const mangled *m, const window *w, unsigned refusal)
 {
     uint8_t trace[TRACE];
     size_t length = below(b, TRACE + 1), i;
 
     for (i = 0; i < length; i++)
-        trace[i] = (uint8_t)below(b, !state && w->n == 0 ? 256 : 5);
-    check(b, m, w, state, door.call(lay(b, m), m->length, b->buffer, w->buffer_length, w->start, w->n), CALL);
-    check(b, m, w, state,
+        trace[i] = (uint8_t)below(b, refusal != 0 && w->n == 0 ? 256 : 5);
+    check(b, m, w, refusal, door.call(lay(b, m), m->length, b->buffer, w->buffer_length, w->start, w->n), CALL);
+    check(b, m, w, refusal,
           door.run(lay(b, m), m->length, b->buffer, w->buffer_length, w->start, w->n, trace, length), RUN);
 }
 
@@ -248,39 +252,56 @@ static void try_one(bench *b)
     door_view v;
     window w;
     int state;
+    unsigned refusal;
 
     mangle(b, &m);
     b->mutations++;
     b->at = GUARD + below(b, SHIFTS);
     v = door.look(lay(b, &m), m.length);
     state = v.refusal == 0;
+    refusal = state ? 0 : NO_STATE;
     b->taken += (unsigned long)state;
     b->refused += (unsigned long)!state;
     if (!left_alone(b))
         fail(b, &m, "look leaves all alone");
-    if (!state && (v.refusal != 6 || !is_empty(v)))
+    if (!state && (v.refusal != NO_STATE || !is_empty(v)))
         fail(b, &m, "look on no state's bytes");
     if (state && (m.length != DOOR_IMAGE || v.n != m.bytes[AT_N] + 256u * m.bytes[AT_N + 1]))
         fail(b, &m, "look takes another length or tells another n");
     w = some_window(b, state, v.n);
-    single_calls(b, &m, &w, state);
-    window_calls(b, &m, &w, state);
+    single_calls(b, &m, &w, refusal);
+    window_calls(b, &m, &w, refusal);
     if (m.length != DOOR_IMAGE)
-        check(b, &m, &w, 0, door.setup(lay(b, &m), m.length, 0x30, below(b, 300)), SETUP);
+        check(b, &m, &w, NO_STATE, door.setup(lay(b, &m), m.length, 0x30, below(b, 300)), SETUP);
 }
 
 /* ---- The live state ---- */
 
-/* Now and then a register of the live state is written, so that every kind of hold and slot comes up. */
+/* A write to the live state, refused as the paper has it; answers the refusal. */
+static unsigned put(bench *b, unsigned number, unsigned value)
+{
+    unsigned wanted = write_refusal(b->image, number, value);
+
+    if (door.write(b->image, DOOR_IMAGE, number, (uint8_t)value).refusal != wanted)
+        b->failures++;
+    return wanted;
+}
+
+/* Now and then a register of the live state is written, so that every kind of hold and slot comes up. A mode refused under
+   way is mostly written again, with the module switched off before. */
 static void set_register(bench *b)
 {
     static const uint8_t kept[REGISTERS] = {0xFF, 0xFF, 0, 0xE1, 0xEF, 0xFF, 0xFF, 0x01};
     unsigned number = below(b, REGISTERS), value = below(b, 256) & kept[number];
 
     if (number == CON1)
-        value = below(b, 12) == 0 ? 0x16 : below(b, 2) ? 0x36 : 0x3E;
-    if (number < 5 || number == FLAG || below(b, 8) == 0)
-        (void)door.write(b->image, DOOR_IMAGE, (uint8_t)number, (uint8_t)value);
+        value = below(b, 12) == 0 ? 0x16 : below(b, 5) < 2 ? 0x36 : 0x3E;
+    if (number >= 5 && number != FLAG && below(b, 8) != 0)
+        return;
+    if (put(b, number, value) == MODE_UNDER_WAY && below(b, 8) != 0) {
+        (void)put(b, CON1, 0x16);
+        (void)put(b, CON1, value);
+    }
 }
 
 /* Takes an item of the traffic on the live state, and mangles the image a few times. */
@@ -341,7 +362,7 @@ int main(int argc, char **argv)
                 traffic_message(&b.source);
         }
     }
-    printf("mutations %lu refused %lu taken %lu calls %lu failures %lu\n",
-           b.mutations, b.refused, b.taken, b.calls, b.failures);
-    return b.failures == 0 && b.taken > 0 && b.refused > 0 ? 0 : 1;
+    printf("mutations %lu refused %lu taken %lu changes of mode %lu calls %lu failures %lu\n",
+           b.mutations, b.refused, b.taken, b.modes, b.calls, b.failures);
+    return b.failures == 0 && b.taken > 0 && b.refused > 0 && b.modes > 0 ? 0 : 1;
 }

@@ -1,5 +1,6 @@
 /* Checks through the door every refusal by each of its causes, alone and beside every other, and windows at every edge. */
 #include "door.h"
+#include "write_refusal.h"
 
 #include <stdio.h>
 #include <string.h>
@@ -17,7 +18,10 @@ enum {
     HELD_SENDING, SENDING, MASTER_ACK, STATES
 };
 
-static uint8_t states[STATES][DOOR_IMAGE];
+/* All of them with SSPM 0110, behind them all with SSPM 1110, and behind these both once more with WCOL and SSPOV 1. */
+enum { WITH_1110 = STATES, WITH_WCOL_SSPOV = 2 * STATES, ALL_STATES = 4 * STATES };
+
+static uint8_t states[ALL_STATES][DOOR_IMAGE];
 static uint8_t room[ROOM], kept[ROOM], buffer[BUFFER], untouched[BUFFER], trace[LONG_TRACE];
 static uint8_t *const image = room + GUARD;
 static unsigned long checks, failures, causes;
@@ -61,14 +65,23 @@ static int done(door_answer a)
     return a.refusal == 0 && a.item == 0 && door.look(image, DOOR_IMAGE).refusal == 0;
 }
 
-/* A state that these writes to CON2 and CON3 and these items lead to, from a fresh one; it has to come to this phase. */
-static void reach(int which, uint8_t con2, uint8_t con3, const char *items, int phase)
+/* A write that must be taken. */
+static void put(uint8_t *state, uint32_t number, uint8_t value)
 {
-    uint8_t *state = states[which];
+    expect(door.write(state, DOOR_IMAGE, number, value).refusal == 0, "a write that is taken", number * 256ul + value);
+}
+
+/* A state that these writes to CON2 and CON3 and these items lead to, from a fresh one; it has to come to this phase. Its
+   mode is stored while disabled, since it cannot be changed under way. */
+static void reach_one(int which, uint8_t con2, uint8_t con3, const char *items, int phase)
+{
+    uint8_t *state = states[which], mode = which < WITH_1110 ? 0x06 : 0x0E;
 
     expect(door.setup(state, DOOR_IMAGE, 0x30, N).refusal == 0, "setup", 0);
-    expect(door.write(state, DOOR_IMAGE, CON2, con2).refusal == 0, "write CON2", 0);
-    expect(door.write(state, DOOR_IMAGE, CON3, con3).refusal == 0, "write CON3", 0);
+    put(state, CON1, mode);
+    put(state, CON1, 0x30 | mode);
+    put(state, CON2, con2);
+    put(state, CON3, con3);
     for (; *items != '\0'; items++) {
         uint8_t item = (uint8_t)(*items == 'h' ? 4 : *items - '0');
 
@@ -76,6 +89,25 @@ static void reach(int which, uint8_t con2, uint8_t con3, const char *items, int 
             expect(door.run(state, DOOR_IMAGE, buffer, BUFFER, 0, N, &item, 1).refusal == 0, "run", 0);
     }
     expect(door.look(state, DOOR_IMAGE).phase == phase, "a state of its phase", (unsigned long)which);
+    expect((state[CON1] & 0x2F) == (0x20 | mode), "a state of its mode", (unsigned long)which);
+}
+
+/* The state in both modes. */
+static void reach(int which, uint8_t con2, uint8_t con3, const char *items, int phase)
+{
+    reach_one(which, con2, con3, items, phase);
+    reach_one(WITH_1110 + which, con2, con3, items, phase);
+}
+
+/* All states once more, with WCOL and SSPOV put in: no trace brings SSPOV into every phase. */
+static void set_wcol_and_sspov(void)
+{
+    int i;
+
+    for (i = 0; i < WITH_WCOL_SSPOV; i++) {
+        memcpy(states[WITH_WCOL_SSPOV + i], states[i], DOOR_IMAGE);
+        states[WITH_WCOL_SSPOV + i][CON1] |= 0xC0;
+    }
 }
 
 /* All of them: 30 is 0011 0000, 31 is 0011 0001. */
@@ -88,7 +120,8 @@ static void reach_all(void)
     memcpy(buffer, untouched, BUFFER);
     reach(FRESH, 0x01, 0x00, "", DOOR_QUIET);
     reach(OFF, 0x01, 0x00, "3", DOOR_QUIET);
-    expect(door.write(states[OFF], DOOR_IMAGE, CON1, 0x06).refusal == 0, "write CON1", 0);
+    put(states[OFF], CON1, 0x06);
+    put(states[WITH_1110 + OFF], CON1, 0x0E);
     reach(MARKED, 0x01, 0x00, "32", DOOR_ADDRESS);
     reach(ADDRESS_BITS, 0x01, 0x00, "32 0 20 31 2", DOOR_ADDRESS);
     reach(ADDRESS_WHOLE, 0x01, 0x00, "32 0 20 20 31 31 20 20 20 2", DOOR_ADDRESS);
@@ -100,22 +133,24 @@ static void reach_all(void)
     reach(HELD_SENDING, 0x01, 0x00, to_sending, DOOR_HELD_SENDING);
     reach(SENDING, 0x01, 0x00, "32 0 20 20 31 31 20 20 20 31 31 h 31 31 31", DOOR_SENDING);
     reach(MASTER_ACK, 0x01, 0x00, "32 0 20 20 31 31 20 20 20 31 31 h 31 31 31 31 31 31 31 31", DOOR_MASTER_ACK);
+    set_wcol_and_sspov();
 }
 
 /* ---- Refusal 6: the bytes are no state's image ---- */
 
-/* Every call refuses the bytes in the room with 6, whatever else is wrong with it, and leaves all alone. */
+/* Every call refuses the bytes in the room with 6, whatever else is wrong with it, and leaves all alone. Of the two modes
+   written to CON1 one is a change under way. */
 static void all_refuse(size_t length, const char *what, unsigned long more)
 {
-    static const uint8_t numbers[4] = {CON3, CON2, CON1, 8}, values[4] = {0x00, 0x1E, 0x2F, 0xFF};
-    static const uint8_t levels[4] = {0, 3, 4, 255}, bad[3] = {3, 5, 4};
+    static const uint8_t numbers[6] = {CON3, CON2, CON1, CON1, CON1, 8}, values[6] = {0x00, 0x1E, 0x2F, 0x36, 0x3E, 0xFF};
+    static const uint8_t levels[6] = {0, 1, 2, 3, 4, 255}, bad[3] = {3, 5, 4};
     static const uint64_t starts[3] = {7, BUFFER, UINT64_MAX}, lengths[3] = {N, 0, UINT64_MAX};
     unsigned i, j;
 
     causes++;
     memcpy(kept, room, ROOM);
     expect(door.look(image, length).refusal == 6 && left_alone(), what, more);
-    for (i = 0; i < 4; i++) {
+    for (i = 0; i < 6; i++) {
         expect(refused(door.read(image, length, numbers[i]), 6, 0), what, more);
         expect(refused(door.write(image, length, numbers[i], values[i]), 6, 0), what, more);
         expect(refused(door.sample(image, length, levels[i]), 6, 0), what, more);
@@ -248,8 +283,8 @@ static void neighbours(void)
     };
     int i;
 
-    for (i = 0; i < STATES; i++)
-        expect(door.look(states[i], DOOR_IMAGE).refusal == 0, "a state that the door made", (unsigned long)i);
+    for (i = 0; i < ALL_STATES; i++)
+        expect(door.look(states[i], DOOR_IMAGE).refusal == 0, "a state", (unsigned long)i);
     for (i = 0; i < 14; i++) {
         lay(states[fine[i].which]);
         image[fine[i].place] = (uint8_t)((image[fine[i].place] & fine[i].keep) | fine[i].set);
@@ -262,19 +297,7 @@ static void neighbours(void)
     expect(door.look(image, DOOR_IMAGE).pointer == 255, "n of 256 with the last pointer", 0);
 }
 
-/* ---- Refusals 1, 2, 3 and 4 in single calls ---- */
-
-/* Why the paper refuses a write, or 0. */
-static unsigned write_refusal(unsigned number, unsigned value)
-{
-    unsigned mode = value & 0x0F;
-
-    if (number > FLAG)
-        return 1;
-    if ((number == CON2 && (value & 0x1E)) || (number == CON3 && (value & 0x10)))
-        return 2;
-    return number == CON1 && (value & 0x20) && mode != 0x06 && mode != 0x0E ? 3 : 0;
-}
+/* ---- Refusals 1, 2, 3, 8 and 4 in single calls ---- */
 
 /* A register number, or a level, by itself: read, and sampled. */
 static void number_alone(const uint8_t *state, uint32_t number)
@@ -287,17 +310,19 @@ static void number_alone(const uint8_t *state, uint32_t number)
            "sample", number);
 }
 
-/* A register number with every value. */
+/* A register number with every value; CON1 is then as it was written, but for WCOL and SSPOV, which only go to 0. */
 static void number_written(const uint8_t *state, uint32_t number)
 {
     unsigned value, wanted;
+    door_answer a;
 
     for (value = 0; value < 256; value++) {
         lay(state);
-        wanted = write_refusal(number, value);
-        expect(wanted ? refused(door.write(image, DOOR_IMAGE, number, (uint8_t)value), wanted, 0)
-                      : done(door.write(image, DOOR_IMAGE, number, (uint8_t)value)),
-               "write", (unsigned long)number * 256 + value);
+        wanted = write_refusal(state, number, value);
+        a = door.write(image, DOOR_IMAGE, number, (uint8_t)value);
+        expect(wanted ? refused(a, wanted, 0) : done(a), "write", (unsigned long)number * 256 + value);
+        if (number == CON1 && !wanted)
+            expect(image[CON1] == (value & (0x3Fu | state[CON1])), "CON1 after a write", value);
     }
 }
 
@@ -307,7 +332,7 @@ static void single_calls(void)
     uint32_t number, low;
     int i, place;
 
-    for (i = 0; i < STATES; i++) {
+    for (i = 0; i < ALL_STATES; i++) {
         for (number = 0; number < 256; number++) {
             number_written(states[i], number);
             number_alone(states[i], number);
@@ -319,6 +344,47 @@ static void single_calls(void)
                 lay(states[i]);
                 expect(refused(door.write(image, DOOR_IMAGE, number, 0), 1, 0), "write", number);
             }
+    }
+}
+
+/* ---- Refusal 8: a change of mode under way ---- */
+
+/* Every SSPM stored while off, and every value written over it: either mode can be enabled, whatever stood there. */
+static void modes_while_off(void)
+{
+    uint8_t off[DOOR_IMAGE];
+    uint8_t mode;
+
+    for (mode = 0; mode < 16; mode++) {
+        memcpy(off, states[OFF], DOOR_IMAGE);
+        put(off, CON1, mode);
+        expect(off[CON1] == mode, "a mode stored while off", mode);
+        number_written(off, CON1);
+    }
+}
+
+/* A hold: a change of mode with CKP 1 neither ends it nor clears WCOL and SSPOV. With the mode that stands, CKP 1 ends it. */
+static void mode_in_hold(const uint8_t *state)
+{
+    uint8_t same = (uint8_t)(0x30 | (state[CON1] & 0x0F)), other = same ^ 0x08;
+
+    lay(state);
+    expect(refused(door.write(image, DOOR_IMAGE, CON1, other), 8, 0), "a change of mode in a hold", other);
+    expect(door.look(image, DOOR_IMAGE).scl_pulled == 1, "a hold that stays", other);
+    expect(done(door.write(image, DOOR_IMAGE, CON1, same)), "a release", same);
+    expect(door.look(image, DOOR_IMAGE).scl_pulled == 0 && image[CON1] == same, "a hold that ends", same);
+}
+
+/* Off with every SSPM, and each hold in both modes, WCOL and SSPOV 0 and 1. */
+static void modes(void)
+{
+    int i;
+
+    modes_while_off();
+    for (i = 0; i < ALL_STATES; i += STATES) {
+        mode_in_hold(states[i + HELD_DATA]);
+        mode_in_hold(states[i + HELD_BEFORE]);
+        mode_in_hold(states[i + HELD_SENDING]);
     }
 }
 
@@ -477,6 +543,18 @@ static void setups(void)
     expect(door.setup(NULL, 0, 0x30, 1).refusal == 6, "setup on no bytes", 0);
 }
 
+/* Setup makes the fresh state, whatever stood there: it is no write to CON1. */
+static void setups_anew(void)
+{
+    int i;
+
+    for (i = 0; i < ALL_STATES; i++) {
+        lay(states[i]);
+        expect(done(door.setup(image, DOOR_IMAGE, 0x30, N)), "setup over a state", (unsigned long)i);
+        expect(memcmp(image, states[FRESH], DOOR_IMAGE) == 0, "the fresh state", (unsigned long)i);
+    }
+}
+
 /* All checks. */
 int main(void)
 {
@@ -487,10 +565,12 @@ int main(void)
     spoil_parts();
     spoil_rest();
     single_calls();
+    modes();
     windows();
     traces();
     finder();
     setups();
+    setups_anew();
     printf("refusals: images that are no state's %lu checks %lu failures %lu\n", causes, checks, failures);
     return failures == 0 ? 0 : 1;
 }

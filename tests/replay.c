@@ -6,7 +6,7 @@
 
 enum { LINE = 2048, TEXT = 256, GUARD = 16, MEMORY = 256, BUFFER = GUARD + MEMORY + GUARD, STRETCH = 4096 };
 
-enum { GUARD_BYTE = 0x5A, NO_WIRE = 255, HANDLER_CALL = 4 };
+enum { GUARD_BYTE = 0x5A, NO_WIRE = 255, HANDLER_CALL = 4, HIGHEST_REFUSAL = 8 };
 
 /* A state image with the buffer whose window it works on. */
 typedef struct {
@@ -234,7 +234,7 @@ static int parse_step(const char *p, unsigned n, step *s)
     if (!action(&p, s) || !word(&p, " > "))
         return 0;
     if (word(&p, "refused "))
-        return decimal(&p, 7, &s->refusal) && s->refusal > 0 && *p == '\0';
+        return decimal(&p, HIGHEST_REFUSAL, &s->refusal) && s->refusal > 0 && *p == '\0';
     return seen(&p, n, &s->seen);
 }
 

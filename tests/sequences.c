@@ -6,7 +6,7 @@
 #include <stdlib.h>
 #include <string.h>
 
-enum { WORD = 16, TEXT = 128, SDA = 1, SCL = 2, RESERVED_BIT = 2 };
+enum { WORD = 16, TEXT = 128, SDA = 1, SCL = 2, CON1 = 2, RESERVED_BIT = 2, MODE_UNDER_WAY = 8 };
 
 /* A bit by its name: its register and its place in it; whether a step shows it. */
 typedef struct {
@@ -102,7 +102,7 @@ static void put_bit(const char *name, int one, const char *word)
     fail("no such bit", word);
 }
 
-/* w0=5A, r0=30 and no3=91. */
+/* w0=5A, r0=30, no3=91 and no2=3E. */
 static void access_word(const char *word)
 {
     const char *equals = strchr(word, '=');
@@ -114,7 +114,7 @@ static void access_word(const char *word)
     else if (word[0] == 'w')
         put(number, value, 0);
     else if (word[0] == 'n')
-        put(number, value, RESERVED_BIT);
+        put(number, value, number == CON1 ? MODE_UNDER_WAY : RESERVED_BIT);
     else if (door.read(image, DOOR_IMAGE, (uint8_t)number).value != value)
         fail("another value was read", word);
 }

@@ -9,7 +9,7 @@
      wait        the master releases SCL; the wire must stay low, so the clock is held
      +CKP -SSPIF software makes a bit 1 or 0, by a write of its register with the other bits as they read
      w0=5A r0=30 software writes a register; reads one, which must give this
-     no3=91      software writes a register, which must be refused with 2
+     no3=91      software writes a register, which must be refused: CON1 with 8, others with 2
      =323        these levels as they stand
 
    Bits seen: all that are 1 among S P DA RW BF WCOL SSPOV CKP ACKTIM ACKSTAT SSPIF. A step number with a letter is a part of
@@ -69,9 +69,9 @@ static const row rows[] = {
     STEP("8", "R", "S CKP SSPIF", "address"),
     STEP("13", "-SSPIF P", "P CKP SSPIF", "quiet"),
 
-    SEQUENCE("brief 2.2, interrupts on Start and Stop by the mode 1110", "w2=3E -SEN"),
+    SEQUENCE("brief 2.2, interrupts on Start and Stop by the mode 1110", "no2=3E w2=1E w2=3E -SEN"), /* rules: by disabling */
     STEP("1", "S", "S CKP SSPIF", "address"),
-    STEP("2", "-SSPIF", "S CKP", "address"),
+    STEP("2", "-SSPIF no2=36", "S CKP", "address"),
     STEP("13", "P", "P CKP SSPIF", "quiet"),
 
     SEQUENCE("brief 2.2.6.2, reception with AHEN and DHEN, SEN 0 (figure 2-8)", "+AHEN +DHEN -SEN"),

@@ -4,10 +4,13 @@
    the second program goes alone. */
 #include "promise.h"
 #include "step.h"
+#include "write_refusal.h"
 
 #include <string.h>
 
 enum { IMAGE = 48, LONGEST_IMAGE = 64, LONGEST_BUFFER = 300, LONGEST_BYTES = 4096, GUARD_BYTE = 0xA5, HANDLER_CALL = 4 };
+
+enum { CON1 = 2, MODE_UNDER_WAY = 8, HIGHEST_REFUSAL = 8 };
 
 /* Lent memory is as long as it is said to be. Where address checking sees every access nothing stands around it; else, and
    always around what the archive gets, there are guard bytes. */
@@ -145,8 +148,19 @@ static size_t raw(source *s, uint8_t *items, unsigned limit)
     return length;
 }
 
+/* The value for CON1: SSPEN 1 and a mode that can run. A change of mode under way is now and then tried, else SSPEN is 0: the
+   module is disabled with the other mode stored. */
+static uint8_t con1_value(const program *p, uint8_t value)
+{
+    uint8_t running = (uint8_t)((value & 0xD8) | 0x26);
+
+    if (write_refusal(p->image, CON1, running) == MODE_UNDER_WAY && value % 8 > 1)
+        return (uint8_t)(running & 0xDF);
+    return running;
+}
+
 /* A register access: mostly to a register that is there, with a value that is not refused. */
-static void register_access(source *s, step *made)
+static void register_access(source *s, const program *p, step *made)
 {
     static const uint8_t allowed[8] = {0xFF, 0xFF, 0xDF, 0xE1, 0xEF, 0xFF, 0xFF, 0xFF};
     uint8_t pick = next(s);
@@ -155,8 +169,8 @@ static void register_access(source *s, step *made)
     made->value = next(s);
     if (pick < 192)
         made->value &= allowed[made->number];
-    if (pick < 192 && made->number == 2)
-        made->value = (uint8_t)((made->value & 0xD8) | 0x26);
+    if (pick < 192 && made->number == CON1)
+        made->value = con1_value(p, made->value);
 }
 
 /* The next call. */
@@ -180,7 +194,7 @@ static step next_step(source *s, const program *p, uint8_t *bytes)
         made.item = number(s, made.bytes_length == 0 ? 0 : next(s) % made.bytes_length);
     }
     if (made.which == STEP_READ || made.which == STEP_WRITE)
-        register_access(s, &made);
+        register_access(s, p, &made);
     if (made.which == STEP_SETUP)
         made.value = next(s) < 200 ? 0x30 : next(s);
     if (made.which == STEP_SAMPLE)
@@ -238,7 +252,7 @@ static outcome make(program *p, const step *s)
 
 /* Which refusals each function can have, a bit for each. */
 static const unsigned refusals[STEPS] = {
-    1u << 6 | 1u << 5, 1u << 6 | 1u << 1, 1u << 6 | 1u << 1 | 1u << 2 | 1u << 3, 1u << 6 | 1u << 4,
+    1u << 6 | 1u << 5, 1u << 6 | 1u << 1, 1u << 6 | 1u << 1 | 1u << 2 | 1u << 3 | 1u << 8, 1u << 6 | 1u << 4,
     1u << 6 | 1u << 5, 1u << 6 | 1u << 5 | 1u << 4, 1u << 6, 1u << 4 | 1u << 7
 };
 
@@ -259,7 +273,8 @@ static void check_answer(const step *s, const outcome *o)
     int named = o->refusal == 4 && (s->which == STEP_RUN || s->which == STEP_FIND);
     int i;
 
-    promise(o->refusal < 8 && (o->refusal == 0 || (refusals[s->which] >> o->refusal & 1)), "no refusal of this function");
+    promise(o->refusal <= HIGHEST_REFUSAL && (o->refusal == 0 || (refusals[s->which] >> o->refusal & 1)),
+            "no refusal of this function");
     promise(o->value == 0 || (s->which == STEP_READ && o->refusal == 0 && o->value < 256), "a value where there is none");
     if (named)
         promise(o->item < s->bytes_length && o->item == first_above(s->bytes, s->bytes_length, highest), "first bad item");
@@ -269,6 +284,13 @@ static void check_answer(const step *s, const outcome *o)
         promise(o->seen[i] == 0, "fields after a refusal");
     if (s->state_length != IMAGE && s->which != STEP_FIND)
         promise(o->refusal == 6, "an image of another length is none");
+}
+
+/* A write to a state is refused exactly as the paper has it. */
+static void check_write(const program *before, const step *s, const outcome *o)
+{
+    if (s->which == STEP_WRITE && o->refusal != 6)
+        promise(o->refusal == write_refusal(before->image, s->number, s->value), "another refusal of a write");
 }
 
 /* A refusal leaves all, a look and a find too; the handler leaves what is outside its window. */
@@ -337,6 +359,7 @@ static outcome made_well(program *p, const step *s)
     outcome o = make(p, s);
 
     check_answer(s, &o);
+    check_write(&before, s, &o);
     check_kept(&before, p, s, &o);
     check_part(s, &o);
     check_state(p, s, &o);

@@ -33,7 +33,7 @@ enum { QUIET, ADDRESS, DATA, HELD_BEFORE, SLOT, HELD_SENDING, SENDING, MASTER_AC
 /* Refusals by their numbers. */
 enum {
     DONE = 0, NO_REGISTER = 1, MASTER_BITS = 2, NO_SUCH_MODE = 3,
-    NO_SUCH_LEVEL = 4, NO_SUCH_WINDOW = 5, NO_STATE = 6, NO_SUCH_ITEM = 7
+    NO_SUCH_LEVEL = 4, NO_SUCH_WINDOW = 5, NO_STATE = 6, NO_SUCH_ITEM = 7, MODE_UNDER_WAY = 8
 };
 
 /* The image's length, and the places in it. */
@@ -646,8 +646,16 @@ second_answer second_read(uint8_t *state, size_t state_length, uint32_t number)
     return answer(DONE, value, 0);
 }
 
+/* Whether a write to CON1 leaves SSPEN at 1 and changes SSPM. */
+static int changes_mode_under_way(const module *m, uint8_t value)
+{
+    int stays_enabled = any(m, CON1, SSPEN) && (value & SSPEN);
+
+    return stays_enabled && (value & SSPM) != (m->reg[CON1] & SSPM);
+}
+
 /* Why a write is refused, or DONE. */
-static int write_refusal(uint32_t number, uint8_t value)
+static int write_refusal(const module *m, uint32_t number, uint8_t value)
 {
     int mode = value & SSPM;
 
@@ -657,6 +665,8 @@ static int write_refusal(uint32_t number, uint8_t value)
         return MASTER_BITS;
     if (number == CON1 && (value & SSPEN) && mode != SLAVE && mode != SLAVE_FLAGGED)
         return NO_SUCH_MODE;
+    if (number == CON1 && changes_mode_under_way(m, value))
+        return MODE_UNDER_WAY;
     return DONE;
 }
 
@@ -668,7 +678,7 @@ second_answer second_write(uint8_t *state, size_t state_length, uint32_t number,
 
     if (!decode(&m, state, state_length))
         return answer(NO_STATE, 0, 0);
-    refusal = write_refusal(number, value);
+    refusal = write_refusal(&m, number, value);
     if (refusal != DONE)
         return answer(refusal, 0, 0);
     write_register(&m, (uint8_t)number, value);

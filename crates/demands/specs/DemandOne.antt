@@ -20,8 +20,8 @@ use Rattle.refusals.specs.Numbers.{numberOf}
 use Rattle.wire.specs.Byte.{bit}
 use Rattle.mssp.specs.declared.Module.{Module}
 use Rattle.mssp.specs.Module.{modelled, setup}
-use Rattle.register_bytes.specs.Bytes.{con1Of}
-use Rattle.register_bytes.specs.Bits.{halfOf, small, half-back}
+use Rattle.register_bytes.specs.Bytes.{byteOf, sspmOf}
+use Rattle.register_bytes.specs.Bits.{small, half-back}
 use Rattle.registers.specs.declared.Register.{Register}
 use Rattle.registers.specs.declared.Register.the-variants.{Buf, Stat, Con1, Con2, Con3, Add, Msk, Flag, Nowhere}
 use Rattle.registers.specs.Values.{registerOf, registerNumber, valueOf, readVerdict, readOf}
@@ -211,7 +211,9 @@ fits-not h start n s image = (
     same k = sym (k .2) ∙ ap (λ (t : State). t .handler .n) (encode-injective (k .0) s (k .1 .0 ∙ sym (image .0)))
 
 -- SSPM is four bits, and the number that they make.
-half-ours : (b3 b2 b1 b0 : Bool) → (modelled b3 b2 b1 b0 ≡ true) ↔ ((halfOf b3 b2 b1 b0 ≡ 6) ⊎ (halfOf b3 b2 b1 b0 ≡ 14))
+half-ours :
+    (b3 b2 b1 b0 : Bool) → let half : ℕ = byteOf false false false false b3 b2 b1 b0 in
+    (modelled b3 b2 b1 b0 ≡ true) ↔ ((half ≡ 6) ⊎ (half ≡ 14))
 half-ours true true true false = (λ t. inr refl, λ k. refl)
 half-ours false true true false = (λ t. inl refl, λ k. refl)
 half-ours b3 true true true = (λ t. never t, ⊎-elim (λ e. absurd (omega arith)) (λ e. absurd (omega arith)))
@@ -299,13 +301,13 @@ module _ (number v : ℕ) where
 
   mode-change :
       (h : Host) (s : State) → ImageOf s (h .state)
-      → (isCON1 r && modeChange (con1Of (s .mssp .config) (s .mssp .live)) v ≡ true) ↔ ChangesMode h number v
+      → (isCON1 r && modeChange (s .mssp .config .sspen) (sspmOf (s .mssp .config)) v ≡ true) ↔ ChangesMode h number v
   mode-change h s image =
-      let held : ℕ = con1Of (s .mssp .config) (s .mssp .live) in
-      let on = both (bit 5 held) (bit 5 v) (is-one (bit 5 held)) (is-one (bit 5 v)) in
-      let other = both (bit 5 held && bit 5 v) (not (eqb (v % 16) (held % 16))) on (not-equal (v % 16) (held % 16)) in
-      let all = both (isCON1 r) (modeChange held v) con1 other in
-      rw (shown-is s h image)
+      let c = s .mssp .config in
+      let on = both (c .sspen) (bit 5 v) (is-one (c .sspen)) (is-one (bit 5 v)) in
+      let other = both (c .sspen && bit 5 v) (not (eqb (v % 16) (sspmOf c))) on (not-equal (v % 16) (sspmOf c)) in
+      let all = both (isCON1 r) (modeChange (c .sspen) (sspmOf c) v) con1 other in
+      rw (shown-is s h image .0, shown-is s h image .1)
       (λ t. let k = all .0 t in (k .0, k .1 .0 .0, k .1 .0 .1, k .1 .1), λ k. all .1 (k .0, ((k .1, k .2), k .3)))
 
 -- ---- what each call looks at

@@ -13,12 +13,12 @@ use Rattle.truth.specs.Tests.{by-test}
 use Rattle.items.specs.Theorems.{none-above, none-first}
 use Rattle.refusals.specs.declared.Refusal.the-variants.{NoWindow}
 use Rattle.wire.specs.Wire.{sclOf, sdaOf, onWire}
-use Rattle.mssp.specs.declared.Config.{Config}
 use Rattle.mssp.specs.declared.Module.{Module}
-use Rattle.mssp.specs.Module.{setup, setWCOL}
+use Rattle.mssp.specs.Module.{setup}
 use Rattle.mssp.specs.Drivers.{sclPulled, sdaPulled}
 use Rattle.effects.specs.Effects.{emptied}
 use Rattle.sampling.specs.Rules.{seenIf}
+use Rattle.register_bytes.specs.Bytes.{sspmOf}
 use Rattle.firmware.specs.declared.State.{State}
 use Rattle.firmware.specs.declared.Made.the-variants.{Ready, NotMade}
 use Rattle.firmware.specs.Handler.{isWindowLength, Served, served, stateOf, handlerOf, acknowledged, serve, calledIf}
@@ -95,9 +95,9 @@ module _ (start n : ℕ) (bytes buffer : List ℕ) (h : start + n ≤ length buf
 splice-own : (start n : ℕ) (buffer : List ℕ) → splice start n (windowOf start n buffer) buffer ≡ buffer
 splice-own start n buffer = rw (take-append-drop n (drop start buffer), take-append-drop start buffer)
 
--- What no sample and no handler call changes: the handler's n, and the configuration but for WCOL
-abbrev pub standing : State → ℕ × Config
-standing s = (s .handler .n, setWCOL false (s .mssp .config))
+-- What no sample and no handler call changes: the handler's n, and SSPM
+abbrev pub standing : State → ℕ × ℕ
+standing s = (s .handler .n, sspmOf (s .mssp .config))
 
 seen-stands : (on : Bool) (m : Module) (scl sda : Bool) → seenIf on m scl sda .config ≡ m .config
 seen-stands true m scl sda = refl
@@ -165,7 +165,7 @@ module _ (start n : ℕ) where
       left-length = run-length (w .state) (windowOf start n (w .bytes)) xs ∙ window-length start n (w .bytes) within
 
       ran-fits : hasWindow (ranOn w xs) start n ≡ true
-      ran-fits = rw (splice-length start n (left .bytes) (w .bytes) within left-length, ap (λ (x : ℕ × Config). x .0) (run-stands (w .state) (windowOf start n (w .bytes)) xs)) f
+      ran-fits = rw (splice-length start n (left .bytes) (w .bytes) within left-length, ap (λ (x : ℕ × ℕ). x .0) (run-stands (w .state) (windowOf start n (w .bytes)) xs)) f
 
       ran-on : (ys : List ℕ) → ranOn (ranOn w xs) ys ≡ ranOn w (xs ++ ys)
       ran-on ys =

@@ -1,5 +1,5 @@
 -- Demand 2: after every list of calls the bytes are the image of the state that the definitions give.
-use Prim.Native.Nat.{ℕ}
+use Prim.Native.Nat.{ℕ, _%_}
 use mathlib.Core.Logic.{_⊎_, inl, inr, ⊎-elim}
 use mathlib.Core.Path.{_≡_, refl, sym, ap, subst, _∙_}
 use mathlib.Core.Bool.{Bool, true, false}
@@ -14,7 +14,10 @@ use Rattle.refusals.specs.declared.Refusal.the-variants.{NoState}
 use Rattle.refusals.specs.declared.Verdict.{Verdict}
 use Rattle.refusals.specs.declared.Verdict.the-variants.{Done, Refused}
 use Rattle.refusals.specs.Numbers.{accepted}
+use Rattle.wire.specs.Byte.{bit}
 use Rattle.mssp.specs.declared.Module.{Module}
+use Rattle.register_bytes.specs.Bytes.{con1Of, sspmOf}
+use Rattle.register_bytes.specs.Bits.{bits-back, packed-half}
 use Rattle.registers.specs.declared.Access.{Access}
 use Rattle.registers.specs.declared.Register.{Register}
 use Rattle.registers.specs.declared.Register.the-variants.{Buf, Stat, Con1, Con2, Con3, Add, Msk, Flag, Nowhere}
@@ -65,9 +68,17 @@ pub on-state :
 unfolding byState
 on-state nothing work s v = rw (decode-encode s v)
 
-pub shown-is : (s : State) (h : Host) → ImageOf s (h .state) → shownCON1 h ≡ valueOf (s .mssp .config) (s .mssp .live) Con1
+-- SSPEN and SSPM as a look shows them are the state's.
+pub shown-is :
+    (s : State) (h : Host) → ImageOf s (h .state)
+    → (bit 5 (shownCON1 h) ≡ s .mssp .config .sspen) × (shownCON1 h % 16 ≡ sspmOf (s .mssp .config))
 shown-is s h image =
-    subst (λ (b : List ℕ). doorLook b .con1 ≡ viewOf s .con1) (image .0) (ap (λ (v : View). v .con1) (on-state noView viewOf s (image .1)))
+    let c = s .mssp .config in let l = s .mssp .live in
+    let look : doorLook (h .state) ≡ viewOf s = subst (λ (b : List ℕ). doorLook b ≡ viewOf s) (image .0) (on-state noView viewOf s (image .1)) in
+    let is : shownCON1 h ≡ con1Of c l = ap (λ (v : View). v .con1) look in (
+      rw is (bits-back (c .wcol) (l .sspov) (c .sspen) (l .ckp) (c .sspm3) (c .sspm2) (c .sspm1) (c .sspm0) .is5),
+      rw is (packed-half (c .wcol) (l .sspov) (c .sspen) (l .ckp) (c .sspm3) (c .sspm2) (c .sspm1) (c .sspm0)),
+    )
 
 -- ---- one call
 -- A read that is refused leaves the module as it was.

@@ -15,8 +15,8 @@ use Rattle.mssp.specs.Module.{modelled}
 use Rattle.mssp.specs.Valid.{modeFits, valid}
 use Rattle.mssp.specs.Laws.{clauses}
 use Rattle.effects.specs.Effects.{emptied, loaded, released}
-use Rattle.register_bytes.specs.Bytes.{byteOf, con1Of}
-use Rattle.register_bytes.specs.Bits.{EightBits, bits-back, packed-half, half-back}
+use Rattle.register_bytes.specs.Bytes.{byteOf, sspmOf}
+use Rattle.register_bytes.specs.Bits.{EightBits, bits-back, half-back}
 use Rattle.writes.specs.Writes.{modeChange}
 use Rattle.memory.specs.Memory.{peeked}
 use Rattle.firmware.specs.declared.State.{State}
@@ -53,18 +53,17 @@ mode-ours true true t = refl
 mode-ours true false t = absurd t
 mode-ours false ours t = refl
 
-unchanged : (con1 v : ℕ) → v % 16 ≡ con1 % 16 → modeChange con1 v ≡ false
-unchanged con1 v e = rw (modeChange, eq-eqb (v % 16) (con1 % 16) e, and-false (bit 5 con1 && bit 5 v))
+unchanged : (on : Bool) (mode v : ℕ) → v % 16 ≡ mode → modeChange on mode v ≡ false
+unchanged on mode v e = rw (modeChange, eq-eqb (v % 16) mode e, and-false (on && bit 5 v))
 
 con1-written :
     (m : Module) (v : ℕ) → T (modeFits (m .config))
     → EightBits v (m .config .wcol) (m .live .sspov) (m .config .sspen) true (m .config .sspm3) (m .config .sspm2) (m .config .sspm1) (m .config .sspm0)
     → afterWriting 2 v m ≡ released m
 con1-written m v mode k =
-    let c = m .config in let l = m .live in
-    let half = packed-half (c .wcol) (l .sspov) (c .sspen) (l .ckp) (c .sspm3) (c .sspm2) (c .sspm1) (c .sspm0) in
-    let same : v % 16 ≡ con1Of c l % 16 = sym (half-back v) ∙ rw (k .is3, k .is2, k .is1, k .is0) (sym half) in
-    rw (unchanged (con1Of c l) v same, k .is7, k .is6, k .is5, k .is4, k .is3, k .is2, k .is1, k .is0, mode-ours (c .sspen) (modelled (c .sspm3) (c .sspm2) (c .sspm1) (c .sspm0)) mode, not-both (c .sspen), both-same (c .wcol), both-same (m .live .sspov))
+    let c = m .config in
+    let same : v % 16 ≡ sspmOf c = sym (half-back v) ∙ rw (k .is3, k .is2, k .is1, k .is0) in
+    rw (unchanged (c .sspen) (sspmOf c) v same, k .is7, k .is6, k .is5, k .is4, k .is3, k .is2, k .is1, k .is0, mode-ours (c .sspen) (modelled (c .sspm3) (c .sspm2) (c .sspm1) (c .sspm0)) mode, not-both (c .sspen), both-same (c .wcol), both-same (m .live .sspov))
 
 ckp-set : (m : Module) → T (modeFits (m .config)) → settingCKP m ≡ released m
 ckp-set m mode =

@@ -24,12 +24,11 @@ made t c v b7 b6 b5 b4 b3 b2 b1 b0 =
     let k = bits-back b7 b6 b5 b4 b3 b2 b1 b0 in
     rw (k .is7, k .is6, k .is5, k .is4, k .is3, k .is2, k .is1, k .is0)
 
--- What CON1 holds after a write is what was stored, whatever else the write does.
-pub con1-stored :
+con1-kept :
     (off ckp : Bool) (v : ℕ) (m : Module) → ckp ≡ bit 4 v → holds Con1 (con1Then off ckp (con1Stored v m)) ≡ holds Con1 (con1Stored v m)
-con1-stored true ckp v m e = refl
-con1-stored false true v m e = rw (← e)
-con1-stored false false v m e = refl
+con1-kept true ckp v m e = refl
+con1-kept false true v m e = rw (← e)
+con1-kept false false v m e = refl
 
 -- The flag's byte has no other bit.
 lone-bit : (b : Bool) → boolByte b ≡ byteOf false false false false false false false b
@@ -49,7 +48,7 @@ module _ (v : ℕ) (m : Module) where
   con1-back : ReadsBack Con1 v m
   con1-back =
       let c = m .config in let l = m .live in
-      con1-stored (c .sspen && not (bit 5 v)) (bit 4 v) v m refl
+      con1-kept (c .sspen && not (bit 5 v)) (bit 4 v) v m refl
       ∙ sym (made (takes Con1) (clears Con1) v (c .wcol) (l .sspov) (c .sspen) (l .ckp) (c .sspm3) (c .sspm2) (c .sspm1) (c .sspm0))
 
   con2-back : ReadsBack Con2 v m

@@ -1,6 +1,6 @@
 -- A byte packed from eight bits has just these bits: one test over all of them, computed, and the law that it gives. And the low
 -- half of a number, which is made of its low four bits.
-use Prim.Native.Nat.{ℕ, zero, suc, _+_, _*_, _/_, _%_, _<_, _≤_}
+use Prim.Native.Nat.{ℕ, zero, suc, _/_, _%_, _<_, _≤_}
 use mathlib.Core.Path.{_≡_, refl}
 use mathlib.Core.Bool.{Bool, true, false, not, _&&_}
 use native.Mathlib.Omega.{arith}
@@ -82,15 +82,13 @@ bits-back b7 b6 b5 b4 b3 b2 b1 b0 =
     }
 
 -- ---- the low half
-abbrev pub halfOf : Bool → Bool → Bool → Bool → ℕ
-halfOf b3 b2 b1 b0 = boolByte b3 * 8 + boolByte b2 * 4 + boolByte b1 * 2 + boolByte b0
-
 pub small : (b : Bool) → boolByte b ≤ 1
 small true = omega arith
 small false = omega arith
 
 -- Of a packed byte.
-pub packed-half : (b7 b6 b5 b4 b3 b2 b1 b0 : Bool) → byteOf b7 b6 b5 b4 b3 b2 b1 b0 % 16 ≡ halfOf b3 b2 b1 b0
+pub packed-half :
+    (b7 b6 b5 b4 b3 b2 b1 b0 : Bool) → byteOf b7 b6 b5 b4 b3 b2 b1 b0 % 16 ≡ byteOf false false false false b3 b2 b1 b0
 packed-half b7 b6 b5 b4 b3 b2 b1 b0 = omega (arith, small b3, small b2, small b1, small b0)
 
 -- Of any number.
@@ -99,7 +97,7 @@ one-bit zero h = refl
 one-bit (suc zero) h = refl
 one-bit (suc (suc x)) h = absurd (omega arith)
 
-pub half-back : (v : ℕ) → halfOf (bit 3 v) (bit 2 v) (bit 1 v) (bit 0 v) ≡ v % 16
+pub half-back : (v : ℕ) → byteOf false false false false (bit 3 v) (bit 2 v) (bit 1 v) (bit 0 v) ≡ v % 16
 half-back v =
     rw (one-bit (v / 8 % 2) (omega arith), one-bit (v / 4 % 2) (omega arith), one-bit (v / 2 % 2) (omega arith), one-bit (v / 1 % 2) (omega arith), div-one v)
     (omega (arith, div-div-eq-div-mul v 8 2, div-div-eq-div-mul v 4 2, div-div-eq-div-mul v 2 2))

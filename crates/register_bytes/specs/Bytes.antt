@@ -19,6 +19,10 @@ statOf c l = byteOf (c .smp) (c .cke) (l .da) (l .p) (l .s) (l .rw) false (l .bf
 abbrev pub con1Of : Config → Live → ℕ
 con1Of c l = byteOf (c .wcol) (l .sspov) (c .sspen) (l .ckp) (c .sspm3) (c .sspm2) (c .sspm1) (c .sspm0)
 
+-- SSPM by itself, the low half of CON1, as a number.
+abbrev pub sspmOf : Config → ℕ
+sspmOf c = byteOf false false false false (c .sspm3) (c .sspm2) (c .sspm1) (c .sspm0)
+
 -- GCEN, ACKSTAT, ACKDT, four bits of the master, SEN.
 abbrev pub con2Of : Config → Live → ℕ
 con2Of c l = byteOf (c .gcen) (l .ackstat) (c .ackdt) false false false false (c .sen)

@@ -1,6 +1,6 @@
 // STAT, CON1, CON2 and CON3 as they read: which bit stands where.
 ghost use mathlib.Core.Path.{_≡_};
-ghost use Rattle.register_bytes.specs.Bytes.{byteOf, statOf, con1Of, con2Of, con3Of};
+ghost use Rattle.register_bytes.specs.Bytes.{byteOf, statOf, con1Of, sspmOf, con2Of, con3Of};
 use mssp::Config;
 use mssp::Live;
 
@@ -32,6 +32,22 @@ pub fn con1(c: Config, l: Live) -> u8
         l.sspov,
         c.sspen,
         l.ckp,
+        c.sspm3,
+        c.sspm2,
+        c.sspm1,
+        c.sspm0,
+    )
+}
+
+// SSPM by itself, as a number.
+pub fn sspm(c: Config) -> u8
+    ensures { λ r. ⌜ r ≡ sspmOf c ⌝ }
+{
+    pack(
+        false,
+        false,
+        false,
+        false,
         c.sspm3,
         c.sspm2,
         c.sspm1,

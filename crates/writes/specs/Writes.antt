@@ -14,7 +14,7 @@ use Rattle.mssp.specs.declared.Config.{Config}
 use Rattle.mssp.specs.declared.Module.{Module}
 use Rattle.mssp.specs.Module.{moduleOf, modelled, setSTAT, setCON1, setCON2, setCON3, setADD, setMSK, setCKP, setSSPOV, setSSPIF}
 use Rattle.effects.specs.Effects.{loaded, released, disabled}
-use Rattle.register_bytes.specs.Bytes.{con1Of}
+use Rattle.register_bytes.specs.Bytes.{sspmOf}
 use Rattle.registers.specs.Values.{registerOf, registerNumber, accessOf}
 use Rattle.registers.specs.declared.Register.{Register}
 use Rattle.registers.specs.declared.Register.the-variants.{Buf, Stat, Con1, Con2, Con3, Add, Msk, Flag, Nowhere}
@@ -83,9 +83,9 @@ setsReserved r v = cond (eqb (registerNumber r) 3) (not (eqb (v / 2 % 16) 0)) (e
 abbrev pub noMode : ℕ → Bool
 noMode v = bit 5 v && not (modelled (bit 3 v) (bit 2 v) (bit 1 v) (bit 0 v))
 
--- SSPEN 1 in CON1, which holds it as 1 already, with another SSPM (the low half) than it holds (02, 6). The phase is not asked.
-abbrev pub modeChange : ℕ → ℕ → Bool
-modeChange con1 v = bit 5 con1 && bit 5 v && not (eqb (v % 16) (con1 % 16))
+-- SSPEN 1 in CON1 where it is 1 already, with another SSPM than the mode that stands (02, 6). The phase is not asked.
+abbrev pub modeChange : Bool → ℕ → ℕ → Bool
+modeChange on mode v = on && bit 5 v && not (eqb (v % 16) mode)
 
 -- The first cause that holds, of causes in their order.
 abbrev pub firstCause : List (Bool × Refusal) → Verdict
@@ -96,7 +96,7 @@ firstCause (cause ∷ rest) = cond (cause .0) (Refused (cause .1)) (firstCause r
 abbrev pub writeCauses : Register → ℕ → Module → List (Bool × Refusal)
 writeCauses r v m =
     (isNowhere r, NoRegister) ∷ (setsReserved r v, ReservedBit) ∷ (isCON1 r && noMode v, NoMode)
-    ∷ (isCON1 r && modeChange (con1Of (m .config) (m .live)) v, ModeChange) ∷ []
+    ∷ (isCON1 r && modeChange (m .config .sspen) (sspmOf (m .config)) v, ModeChange) ∷ []
 
 abbrev pub verdictOf : Register → ℕ → Module → Verdict
 verdictOf r v m = firstCause (writeCauses r v m)

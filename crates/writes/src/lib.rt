@@ -98,11 +98,11 @@ fn with_config(m: Module, config: Config) -> Module
     }
 }
 
-// SSPEN stays 1, and SSPM does not stay what CON1 holds.
-fn is_mode_change(con1: u8, v: u8) -> bool
-    ensures { λ r. ⌜ r ≡ modeChange con1 v ⌝ }
+// SSPEN stays 1, and SSPM does not stay the mode that stands.
+fn is_mode_change(on: bool, mode: u8, v: u8) -> bool
+    ensures { λ r. ⌜ r ≡ modeChange on mode v ⌝ }
 {
-    (con1 / 32 % 2 == 1) & (v / 32 % 2 == 1) & !(v % 16 == con1 % 16)
+    on & (v / 32 % 2 == 1) & !(v % 16 == mode)
 }
 
 // A write to CON1: a mode that is not modelled is looked at before a change of mode.
@@ -115,10 +115,10 @@ fn con1_verdict(m: Module, v: u8) -> Verdict
         v / 2 % 2 == 1,
         v / 1 % 2 == 1,
     );
-    let con1 = register_bytes::con1(m.config, m.live);
+    let changes = is_mode_change(m.config.sspen, register_bytes::sspm(m.config), v);
     let no_mode = Verdict::Refused(Refusal::NoMode);
     let mode_change = Verdict::Refused(Refusal::ModeChange);
-    let running = refusals::pick_verdict(is_mode_change(con1, v), mode_change, Verdict::Done(0));
+    let running = refusals::pick_verdict(changes, mode_change, Verdict::Done(0));
     refusals::pick_verdict((v / 32 % 2 == 1) & !modelled, no_mode, running)
 }
 

@@ -4,7 +4,7 @@ use Rattle.writes.proofs.con1_verdict.Statement.{statement}
 use Rattle.writes.proofs.con1_verdict.Tie as tie
 
 no-mode-then-change : tie.Need-returns
-no-mode-then-change c = simp (c .pick-verdict2 .ensures, c .before .pick-verdict .ensures, c .before .before .is-mode-change .ensures, c .before .before .before .con1 .ensures, c .before .before .before .before .is-modelled .ensures)
+no-mode-then-change c = simp (c .pick-verdict2 .ensures, c .before .pick-verdict .ensures, c .before .before .is-mode-change .ensures, c .before .before .before .sspm .ensures, c .before .before .before .before .is-modelled .ensures)
 
 pub con1-verdict-spec : {M : Type 1} → statement M
 con1-verdict-spec =
