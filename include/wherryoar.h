@@ -5,7 +5,7 @@
    image, a window past the end of memory.
 
    - Every call ends, and touches only what it is lent.
-   - A refused call answers the number of the first refusal that applies, in the order 6, 1, 2, 3, 5, 4, 7, and leaves
+   - A refused call answers the number of the first refusal that applies, in the order 6, 1, 2, 3, 8, 5, 4, 7, and leaves
      state and buffer exactly as they were.
    - What no proof can cover is yours to keep: state, buffer, trace and record must not overlap; a length must not be longer
      than the memory behind its pointer; a pointer may be null only where its length is 0.
@@ -36,6 +36,7 @@ extern "C" {
 #define WHERRYOAR_NO_WINDOW 5       /* window not inside its buffer or not of the setup's length; n outside 1 to 256 */
 #define WHERRYOAR_NO_STATE 6        /* the bytes are no state's image; at setup, not 48 bytes */
 #define WHERRYOAR_PAST_RECORD 7     /* the finder's item number is not below the record's length */
+#define WHERRYOAR_MODE_CHANGE 8     /* a write to CON1 with SSPEN 1 where SSPEN is 1, and another SSPM than the one that stands */
 
 /* Register numbers. */
 #define WHERRYOAR_BUF 0
@@ -101,9 +102,11 @@ wherryoar_answer wherryoar_setup(uint8_t *state, size_t state_length, uint8_t ad
 wherryoar_answer wherryoar_read(uint8_t *state, size_t state_length, uint32_t number);
 
 /* Writes a register. WCOL, SSPOV and SSPIF can only be cleared; ACKSTAT and ACKTIM ignore writes; STAT takes SMP and CKE;
-   BUF takes the byte while the clock is held for sending and else sets WCOL; CKP 1 in CON1 ends a hold.
+   BUF takes the byte while the clock is held for sending and else sets WCOL; CKP 1 in CON1 ends a hold. The mode stands while
+   the module runs: to go from SSPM 0110, which setup chooses, to 1110, write CON1 with SSPEN 0 first, then 3E.
    Refuses with 6 (no state's image), 1 (number above 7), 2 (CON2 bits 4..1 or BOEN set), 3 (CON1 with SSPEN 1 and another
-   SSPM than 0110 and 1110). After a refusal the state is as it was. */
+   SSPM than 0110 and 1110), 8 (CON1 with SSPEN 1 where SSPEN is 1, in whatever phase, and another SSPM than the one that
+   stands). After a refusal the state is as it was: no hold is ended, and WCOL and SSPOV are not cleared. */
 wherryoar_answer wherryoar_write(uint8_t *state, size_t state_length, uint32_t number, uint8_t value);
 
 /* Feeds one sample: what everybody else drives, 2 * SCL + SDA. The wire is low where the sample is low or the module pulls.

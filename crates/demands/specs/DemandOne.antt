@@ -16,7 +16,7 @@ use Rattle.refusals.specs.declared.Refusal.{Refusal}
 use Rattle.refusals.specs.declared.Refusal.the-variants.{NoState, NoWindow, NoItem}
 use Rattle.refusals.specs.declared.Verdict.{Verdict}
 use Rattle.refusals.specs.declared.Verdict.the-variants.{Done, Refused}
-use Rattle.refusals.specs.Numbers.{numberOf}
+use Rattle.refusals.specs.Numbers.{numberOf, firstCause}
 use Rattle.wire.specs.Byte.{bit}
 use Rattle.mssp.specs.declared.Module.{Module}
 use Rattle.mssp.specs.Module.{modelled, setup}
@@ -24,8 +24,8 @@ use Rattle.register_bytes.specs.Bytes.{byteOf, sspmOf}
 use Rattle.register_bytes.specs.Bits.{small, half-back}
 use Rattle.registers.specs.declared.Register.{Register}
 use Rattle.registers.specs.declared.Register.the-variants.{Buf, Stat, Con1, Con2, Con3, Add, Msk, Flag, Nowhere}
-use Rattle.registers.specs.Values.{registerOf, registerNumber, valueOf, readVerdict, readOf}
-use Rattle.writes.specs.Writes.{isNowhere, isCON1, setsReserved, noMode, modeChange, firstCause}
+use Rattle.registers.specs.Values.{registerOf, registerNumber, isNowhere, isCON1, isCON2, isCON3, valueOf}
+use Rattle.writes.specs.Writes.{setsReserved, noMode, modeChange}
 use Rattle.firmware.specs.declared.State.{State}
 use Rattle.firmware.specs.declared.Made.the-variants.{Ready, NotMade}
 use Rattle.firmware.specs.Handler.{longestWindow, isWindowLength, Served, served, stateOf, handlerOf}
@@ -51,7 +51,7 @@ use Rattle.settling.specs.Outcome.{refused, byState}
 use Rattle.settling.specs.Theorems.{one-lent}
 use Rattle.firmware_calls.specs.Calls.{setupIf}
 use Rattle.firmware_calls.specs.Theorems.{setup-keeps, call-keeps, run-keeps}
-use Rattle.module_calls.specs.Calls.{doorLook}
+use Rattle.module_calls.specs.Calls.{levelVerdict, doorLook}
 use Rattle.module_calls.specs.Theorems.{read-keeps, write-keeps, sample-keeps}
 use Rattle.door.specs.declared.Part.{Part as Parted}
 use Rattle.door.specs.Door.{doorFind}
@@ -127,19 +127,6 @@ module _ {named : ℕ → Type 0} where
   beside (here g b) = b
   beside (later fails more) = beside more
 
-  -- By a test that tells whether the next cause holds, where no item is named.
-  tested :
-      {next : Cause} {rest : List Cause} {refusal : ℕ} (t : Bool) → (t ≡ true) ↔ next .holds → OnlyBeside (numberOf (next .why)) (named 0) 0
-      → FirstOf named rest refusal 0 → FirstOf named (next ∷ rest) (cond t (numberOf (next .why)) refusal) 0
-  tested true tells b more = here (tells .0 refl) b
-  tested false tells b more = later (λ g. true≢false (sym (tells .1 g))) more
-
-  told-first :
-      {list : List Cause} {number : ℕ} (v : Verdict) → told v .refusal ≡ number → FirstOf named list number 0
-      → FirstOf named list (told v .refusal) (told v .item)
-  told-first {list} (Done value) e first = subst (λ (k : ℕ). FirstOf named list k 0) (sym e) first
-  told-first {list} (Refused why) e first = subst (λ (k : ℕ). FirstOf named list k 0) (sym e) first
-
 -- Tests in the order of causes, each of which tells whether its cause holds.
 data Tell : List (Bool × Refusal) → List Cause → Type 1 where
   all : Tell [] []
@@ -148,11 +135,11 @@ data Tell : List (Bool × Refusal) → List Cause → Type 1 where
       → Tell tests list → Tell ((t, why) ∷ tests) ((why when holds) ∷ list)
 
 by-tests :
-    {tests : List (Bool × Refusal)} {list : List Cause} → Tell tests list
-    → FirstOf (λ item. item ≡ 0) list (told (firstCause tests) .refusal) (told (firstCause tests) .item)
-by-tests all = none
-by-tests (one {t = true} tells more) = here (tells .0 refl) (λ e. refl, λ e. refl)
-by-tests (one {t = false} tells more) = later (λ g. never (tells .1 g)) (by-tests more)
+    {tests : List (Bool × Refusal)} {list : List Cause} (value : ℕ) → Tell tests list
+    → let answer : Answer = told (firstCause value tests) in FirstOf (λ item. item ≡ 0) list (answer .refusal) (answer .item)
+by-tests value all = none
+by-tests value (one {t = true} tells more) = here (tells .0 refl) (λ e. refl, λ e. refl)
+by-tests value (one {t = false} tells more) = later (λ g. never (tells .1 g)) (by-tests value more)
 
 no-item : {named : Type 0} (number : ℕ) → (number ≡ 4 → ⊥) → OnlyBeside number named 0
 no-item number other = (λ e. absurd (other e), λ e. refl)
@@ -211,29 +198,18 @@ fits-not h start n s image = (
     same k = sym (k .2) ∙ ap (λ (t : State). t .handler .n) (encode-injective (k .0) s (k .1 .0 ∙ sym (image .0)))
 
 -- SSPM is four bits, and the number that they make.
-half-ours :
+half-other :
     (b3 b2 b1 b0 : Bool) → let half : ℕ = byteOf false false false false b3 b2 b1 b0 in
-    (modelled b3 b2 b1 b0 ≡ true) ↔ ((half ≡ 6) ⊎ (half ≡ 14))
-half-ours true true true false = (λ t. inr refl, λ k. refl)
-half-ours false true true false = (λ t. inl refl, λ k. refl)
-half-ours b3 true true true = (λ t. never t, ⊎-elim (λ e. absurd (omega arith)) (λ e. absurd (omega arith)))
-half-ours b3 true false b0 = (λ t. never t, ⊎-elim (λ e. absurd (omega (arith, small b0))) (λ e. absurd (omega (arith, small b0))))
-half-ours b3 false b1 b0 =
-    (λ t. never t, ⊎-elim (λ e. absurd (omega (arith, small b1, small b0))) (λ e. absurd (omega (arith, small b1, small b0))))
+    (not (modelled b3 b2 b1 b0) ≡ true) ↔ ((half ≡ 6 → ⊥) × (half ≡ 14 → ⊥))
+half-other true true true false = (λ t. never t, λ k. absurd (k .1 refl))
+half-other false true true false = (λ t. never t, λ k. absurd (k .0 refl))
+half-other b3 true true true = (λ t. (λ e. omega arith, λ e. omega arith), λ k. refl)
+half-other b3 true false b0 = (λ t. (λ e. omega (arith, small b0), λ e. omega (arith, small b0)), λ k. refl)
+half-other b3 false b1 b0 =
+    (λ t. (λ e. omega (arith, small b1, small b0), λ e. omega (arith, small b1, small b0)), λ k. refl)
 
-ours : (v : ℕ) → (modelled (bit 3 v) (bit 2 v) (bit 1 v) (bit 0 v) ≡ true) ↔ ((v % 16 ≡ 6) ⊎ (v % 16 ≡ 14))
-ours v = rw (half-back v) at (half-ours (bit 3 v) (bit 2 v) (bit 1 v) (bit 0 v))
-
-not-ours :
-    (v : ℕ) → let mode : Bool = modelled (bit 3 v) (bit 2 v) (bit 1 v) (bit 0 v) in
-    (not mode ≡ true) ↔ ((v % 16 ≡ 6 → ⊥) × (v % 16 ≡ 14 → ⊥))
-not-ours v =
-    let mode : Bool = modelled (bit 3 v) (bit 2 v) (bit 1 v) (bit 0 v) in (
-      λ t.
-          let other : mode ≡ true → ⊥ = λ m. true≢false (sym m ∙ not-true mode t) in
-          (λ six. other (ours v .1 (inl six)), λ fourteen. other (ours v .1 (inr fourteen))),
-      λ k. by-test mode (λ t. absurd (⊎-elim (k .0) (k .1) (ours v .0 t))) (λ t. rw t),
-    )
+other-mode : (v : ℕ) → (not (modelled (bit 3 v) (bit 2 v) (bit 1 v) (bit 0 v)) ≡ true) ↔ ((v % 16 ≡ 6 → ⊥) × (v % 16 ≡ 14 → ⊥))
+other-mode v = rw (half-back v) at (half-other (bit 3 v) (bit 2 v) (bit 1 v) (bit 0 v))
 
 -- ---- a register by its number
 -- What holds of each register with its number, and of every number above 7.
@@ -259,14 +235,14 @@ register-is k number low =
     (equal 0 k) (equal 1 k) (equal 2 k) (equal 3 k) (equal 4 k) (equal 5 k) (equal 6 k) (equal 7 k)
     (λ n high. (λ t. absurd (omega (arith, eqb-true 8 k t)), λ e. absurd (omega arith))) number
 
-read-number : (number held : ℕ) → told (readVerdict (registerOf number) held) .refusal ≡ cond (ltb 7 number) 1 0
-read-number number held =
-    by-register (λ n r. told (readVerdict r held) .refusal ≡ cond (ltb 7 n) 1 0) refl refl refl refl refl refl refl refl
-    (λ n h. rw (lt-ltb 7 n h)) number
+nowhere : (number : ℕ) → (isNowhere (registerOf number) ≡ true) ↔ (7 < number)
+nowhere number =
+    rw (by-register (λ n r. isNowhere r ≡ ltb 7 n) refl refl refl refl refl refl refl refl (λ n h. sym (lt-ltb 7 n h)) number)
+    (below 7 number)
 
-sample-number :
-    (s : State) (bytes : List ℕ) (level : ℕ) → told (stepOf s bytes (itemIf (ltb level 4) false level) .verdict) .refusal ≡ cond (ltb 3 level) 4 0
-sample-number s bytes level =
+level-verdict :
+    (s : State) (bytes : List ℕ) (level : ℕ) → levelVerdict level ≡ stepOf s bytes (itemIf (ltb level 4) false level) .verdict
+level-verdict s bytes level =
     by-test (ltb 3 level) (λ t. let h = ltb-true 3 level t in rw (t, le-ltb level 4 h))
     (λ t. let h = ltb-false 3 level t in rw (t, lt-ltb level 4 (omega arith)))
 
@@ -278,24 +254,19 @@ module _ (number v : ℕ) where
   con1 : (isCON1 r ≡ true) ↔ (number ≡ 2)
   con1 = register-is 2 number (omega arith)
 
-  nowhere : (isNowhere r ≡ true) ↔ (7 < number)
-  nowhere =
-      rw (by-register (λ n q. isNowhere q ≡ ltb 7 n) refl refl refl refl refl refl refl refl (λ n h. sym (lt-ltb 7 n h)) number)
-      (below 7 number)
-
   reserved : (setsReserved r v ≡ true) ↔ SetsReserved number v
   reserved =
       let three = register-is 3 number (omega arith) in
-      let boen = both (eqb (registerNumber r) 4) (bit 4 v) (register-is 4 number (omega arith)) (is-one (bit 4 v)) in
+      let boen = both (isCON3 r) (bit 4 v) (register-is 4 number (omega arith)) (is-one (bit 4 v)) in
       let master = not-equal (v / 2 % 16) 0 in (
-        λ t. by-test (eqb (registerNumber r) 3) (λ e. inl (three .0 e, master .0 (rw e at t))) (λ e. inr (boen .0 (rw e at t))),
+        λ t. by-test (isCON2 r) (λ e. inl (three .0 e, master .0 (rw e at t))) (λ e. inr (boen .0 (rw e at t))),
         ⊎-elim (λ k. rw (three .1 (k .0)) (master .1 (k .1)))
-            (λ k. by-test (eqb (registerNumber r) 3) (λ e. absurd (omega (arith, three .0 e, k .0))) (λ e. rw e (boen .1 k))),
+            (λ k. by-test (isCON2 r) (λ e. absurd (omega (arith, three .0 e, k .0))) (λ e. rw e (boen .1 k))),
       )
 
   no-mode : (isCON1 r && noMode v ≡ true) ↔ SetsNoMode number v
   no-mode =
-      let on = both (bit 5 v) (not (modelled (bit 3 v) (bit 2 v) (bit 1 v) (bit 0 v))) (is-one (bit 5 v)) (not-ours v) in
+      let on = both (bit 5 v) (not (modelled (bit 3 v) (bit 2 v) (bit 1 v) (bit 0 v))) (is-one (bit 5 v)) (other-mode v) in
       let all = both (isCON1 r) (noMode v) con1 on in
       (λ t. let k = all .0 t in (k .0, k .1 .0, k .1 .1 .0, k .1 .1 .1), λ k. all .1 (k .0, (k .1, (k .2, k .3))))
 
@@ -359,18 +330,17 @@ module _ (h : Host) where
   looked (readRegister number) =
       on-image (readRegister number) (λ e. rw e)
       (λ s image.
-      told-first (readOf (s .mssp) number .verdict) (read-number number (valueOf (s .mssp .config) (s .mssp .live) (registerOf number)))
-      (tested (ltb 7 number) (below 7 number) (λ e. refl, λ e. refl) none))
+      by-tests (valueOf (s .mssp .config) (s .mssp .live) (registerOf number)) (one (nowhere number) all))
   looked (writeRegister number value) =
       on-image (writeRegister number value) (λ e. rw e)
       (λ s image.
-      by-tests
-      (one (nowhere number value) (one (reserved number value) (one (no-mode number value) (one (mode-change number value h s image) all)))))
+      by-tests 0
+      (one (nowhere number) (one (reserved number value) (one (no-mode number value) (one (mode-change number value h s image) all)))))
   looked (feedSample level) =
       on-image (feedSample level) (λ e. rw e)
       (λ s image.
-      told-first (stepOf s (h .buffer) (itemIf (ltb level 4) false level) .verdict) (sample-number s (h .buffer) level)
-      (tested (ltb 3 level) (below 3 level) (λ e. refl, λ e. refl) none))
+      subst (λ (v : Verdict). FirstOf (λ item. item ≡ 0) ((NoItem when 3 < level) ∷ []) (told v .refusal) (told v .item))
+      (level-verdict s (h .buffer) level) (by-tests 0 (one (below 3 level) all)))
   looked (callHandler start n) =
       on-image (callHandler start n) (λ e. rw e)
       (λ s image.

@@ -9,7 +9,7 @@ use lib.Dec.{T, eqb, ltb}
 use lib.ListN.{length, take, drop, take-append-drop, length-append, length-drop, List·getD-append}
 use lib.Seq.{length-take-le, take-at, drop-at, getD-append-add}
 use borrow.Author.Tests.{ltb-false, lt-ltb, le-ltb, eq-eqb, le-leb}
-use Rattle.truth.specs.Tests.{by-test}
+use Rattle.truth.specs.Tests.{by-test, by-choice}
 use Rattle.items.specs.Theorems.{none-above, none-first}
 use Rattle.refusals.specs.declared.Refusal.the-variants.{NoWindow}
 use Rattle.wire.specs.Wire.{sclOf, sdaOf, onWire}
@@ -103,12 +103,10 @@ seen-stands : (on : Bool) (m : Module) (scl sda : Bool) → seenIf on m scl sda 
 seen-stands true m scl sda = refl
 seen-stands false m scl sda = refl
 
-emptied-stands : (da : Bool) (m : Module) → cond da m (emptied m) .config ≡ m .config
-emptied-stands true m = refl
-emptied-stands false m = refl
-
 serve-stands : (sends da : Bool) (s : State) (bytes : List ℕ) → standing (serve sends da s bytes .state) ≡ standing s
-serve-stands true da s bytes = rw (emptied-stands (s .mssp .live .da) (s .mssp))
+serve-stands true da s bytes =
+    let m = s .mssp in
+    rw (by-choice (λ (n : Module). n .config ≡ m .config) (m .live .da) {a = m} {b = emptied m} (λ e. refl) refl)
 serve-stands false true s bytes = refl
 serve-stands false false s bytes = refl
 

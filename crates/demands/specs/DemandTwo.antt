@@ -2,14 +2,14 @@
 use Prim.Native.Nat.{ℕ, _%_}
 use mathlib.Core.Logic.{_⊎_, inl, inr, ⊎-elim}
 use mathlib.Core.Path.{_≡_, refl, sym, ap, subst, _∙_}
-use mathlib.Core.Bool.{Bool, true, false}
+use mathlib.Core.Bool.{Bool, true, false, true≢false}
 use mathlib.Core.List.{List, [], _∷_, map}
 use mathlib.Core.Option.{Option, none, some, Option·none-ne-some}
 use native.Mathlib.Omega.{arith}
 use lib.Dec.{T, ltb}
 use lib.ListN.{length}
-use borrow.Author.Tests.{eq-eqb, ltb-true, ltb-false, lt-ltb, le-ltb}
-use Rattle.truth.specs.Tests.{never, by-test}
+use borrow.Author.Tests.{eqb-true, eq-eqb, ltb-true, ltb-false, lt-ltb, le-ltb}
+use Rattle.truth.specs.Tests.{by-test}
 use Rattle.refusals.specs.declared.Refusal.the-variants.{NoState}
 use Rattle.refusals.specs.declared.Verdict.{Verdict}
 use Rattle.refusals.specs.declared.Verdict.the-variants.{Done, Refused}
@@ -20,8 +20,7 @@ use Rattle.register_bytes.specs.Bytes.{con1Of, sspmOf}
 use Rattle.register_bytes.specs.Bits.{bits-back, packed-half}
 use Rattle.registers.specs.declared.Access.{Access}
 use Rattle.registers.specs.declared.Register.{Register}
-use Rattle.registers.specs.declared.Register.the-variants.{Buf, Stat, Con1, Con2, Con3, Add, Msk, Flag, Nowhere}
-use Rattle.registers.specs.Values.{registerOf, valueOf, readVerdict, afterRead, readOf}
+use Rattle.registers.specs.Values.{registerOf, registerNumber, isNowhere, valueOf, readVerdict, afterRead, readOf}
 use Rattle.writes.specs.Writes.{writeOf}
 use Rattle.readback.specs.Readback.{refused-leaves}
 use Rattle.firmware.specs.declared.State.{State}
@@ -44,7 +43,7 @@ use Rattle.settling.specs.Left.{ImageOfSome}
 use Rattle.settling.specs.Theorems.{stays}
 use Rattle.firmware_calls.specs.Calls.{setupIf, doorSetup, settledWork}
 use Rattle.firmware_calls.specs.Theorems.{setup-keeps}
-use Rattle.module_calls.specs.Calls.{moduleIn, imageWith, levelVerdict, doorLook}
+use Rattle.module_calls.specs.Calls.{moduleIn, imageWith, levelVerdict}
 use Rattle.doorkept.specs.Image.{setup-leaves, read-stays, write-stays, sample-stays, call-stays, run-stays}
 use Rattle.demands.specs.Calls.{DoorCall, setUp, readRegister, writeRegister, feedSample, callHandler, runTrace, Host, host, Reply, reply, answers, leftAfter, atDoor, told, inWindow, madeOf, byDefinition, ImageOf, ImageOfNone, shownCON1}
 use Rattle.demands.specs.Demands.{DemandTwo}
@@ -68,30 +67,11 @@ pub on-state :
 unfolding byState
 on-state nothing work s v = rw (decode-encode s v)
 
--- SSPEN and SSPM as a look shows them are the state's.
-pub shown-is :
-    (s : State) (h : Host) → ImageOf s (h .state)
-    → (bit 5 (shownCON1 h) ≡ s .mssp .config .sspen) × (shownCON1 h % 16 ≡ sspmOf (s .mssp .config))
-shown-is s h image =
-    let c = s .mssp .config in let l = s .mssp .live in
-    let look : doorLook (h .state) ≡ viewOf s = subst (λ (b : List ℕ). doorLook b ≡ viewOf s) (image .0) (on-state noView viewOf s (image .1)) in
-    let is : shownCON1 h ≡ con1Of c l = ap (λ (v : View). v .con1) look in (
-      rw is (bits-back (c .wcol) (l .sspov) (c .sspen) (l .ckp) (c .sspm3) (c .sspm2) (c .sspm1) (c .sspm0) .is5),
-      rw is (packed-half (c .wcol) (l .sspov) (c .sspen) (l .ckp) (c .sspm3) (c .sspm2) (c .sspm1) (c .sspm0)),
-    )
-
 -- ---- one call
 -- A read that is refused leaves the module as it was.
 read-refused : (r : Register) (held : ℕ) (m : Module) → accepted (readVerdict r held) ≡ false → afterRead r m ≡ m
-read-refused Buf held m e = never (sym e)
-read-refused Stat held m e = refl
-read-refused Con1 held m e = refl
-read-refused Con2 held m e = refl
-read-refused Con3 held m e = refl
-read-refused Add held m e = refl
-read-refused Msk held m e = refl
-read-refused Flag held m e = refl
-read-refused Nowhere held m e = refl
+read-refused r held m e =
+    by-test (isNowhere r) (λ t. rw (eqb-true (registerNumber r) 8 t)) (λ t. absurd (true≢false (rw t at e)))
 
 abbrev unlent : List ℕ → Outcome → Reply Host
 unlent buffer o = reply (o .answer) (host (o .state) buffer)
@@ -231,4 +211,15 @@ demand-two s h calls image =
       (ap (λ (x : Host). x .state) (sym (k .left)), k .valid),
       ap (λ (x : Host). x .buffer) (k .left),
       rw (k .left) (on-state noView viewOf (leftAfter byDefinition w calls .state) (k .valid)),
+    )
+
+-- SSPEN and SSPM as a look shows them are the state's.
+pub shown-is :
+    (s : State) (h : Host) → ImageOf s (h .state)
+    → (bit 5 (shownCON1 h) ≡ s .mssp .config .sspen) × (shownCON1 h % 16 ≡ sspmOf (s .mssp .config))
+shown-is s h image =
+    let c = s .mssp .config in let l = s .mssp .live in
+    let is : shownCON1 h ≡ con1Of c l = ap (λ (v : View). v .con1) (demand-two s h [] image .3) in (
+      rw is (bits-back (c .wcol) (l .sspov) (c .sspen) (l .ckp) (c .sspm3) (c .sspm2) (c .sspm1) (c .sspm0) .is5),
+      rw is (packed-half (c .wcol) (l .sspov) (c .sspen) (l .ckp) (c .sspm3) (c .sspm2) (c .sspm1) (c .sspm0)),
     )

@@ -2,23 +2,24 @@
 use Prim.Native.Nat.{ℕ, _%_}
 use mathlib.Core.Logic.{⊎-elim}
 use mathlib.Core.Path.{_≡_, refl, sym, ap, _∙_}
-use mathlib.Core.Bool.{Bool, true, false, cond, _&&_, not}
+use mathlib.Core.Bool.{Bool, true, false, _&&_, not}
 use mathlib.Core.List.{List, [], _∷_, map}
 use lib.Dec.{eqb, ltb}
 use lib.ListN.{length}
 use borrow.Author.Tests.{eqb-true, not-false}
-use Rattle.truth.specs.Tests.{never}
+use Rattle.truth.specs.Tests.{never, by-choice}
 use Rattle.refusals.specs.Numbers.{accepted}
+use Rattle.refusals.specs.Laws.{none-holds}
 use Rattle.wire.specs.Byte.{bit}
 use Rattle.mssp.specs.declared.Config.{Config}
 use Rattle.mssp.specs.declared.Module.{Module}
+use Rattle.effects.specs.Effects.{emptied}
 use Rattle.register_bytes.specs.Bytes.{sspmOf}
 use Rattle.register_bytes.specs.Bits.{half-back}
 use Rattle.registers.specs.declared.Register.{Register}
 use Rattle.registers.specs.declared.Register.the-variants.{Con1}
-use Rattle.registers.specs.Values.{registerOf, afterRead}
+use Rattle.registers.specs.Values.{registerOf, isBUF}
 use Rattle.writes.specs.Writes.{con1Stored, con1Then, written, writeCauses, verdictOf}
-use Rattle.writes.specs.Laws.{none-holds}
 use Rattle.firmware.specs.declared.State.{State}
 use Rattle.firmware.specs.Handler.{Served, served}
 use Rattle.firmware.specs.Window.{windowOf}
@@ -48,17 +49,13 @@ module _ (v : ℕ) (m : Module) where
   con1-mode a on stays =
       let c = m .config in
       let is = con1-config (c .sspen && not (bit 5 v)) (bit 4 v) (con1Stored v m) in
-      let same = rw (on, rw is at stays) at (none-holds (writeCauses Con1 v m) a .1 .1 .1 .0) in
+      let same = rw (on, rw is at stays) at (none-holds 0 (writeCauses Con1 v m) a .1 .1 .1 .0) in
       rw is (half-back v ∙ eqb-true (v % 16) (sspmOf c) (not-false (eqb (v % 16) (sspmOf c)) same))
 
   write-mode : (number : ℕ) → Accepts (registerOf number)
   write-mode =
       by-register (λ number r. Accepts r) (λ a on stays. refl) (λ a on stays. refl) con1-mode (λ a on stays. refl) (λ a on stays. refl)
       (λ a on stays. refl) (λ a on stays. refl) (λ a on stays. refl) (λ number h a on stays. refl)
-
-  refused-mode : (n : Module) (ok : Bool) → (ok ≡ true → KeepsMode (m .config) (n .config)) → KeepsMode (m .config) (cond ok n m .config)
-  refused-mode n true keeps = keeps refl
-  refused-mode n false keeps = λ on stays. refl
 
 -- ---- every call but a setup
 window-stands :
@@ -73,11 +70,11 @@ call-mode :
     → KeepsMode (w .state .mssp .config) (byDefinition w c .left .state .mssp .config)
 call-mode w (setUp add n) other on stays = absurd (other add n refl)
 call-mode w (readRegister number) other on stays =
-    by-register (λ n r. sspmOf (afterRead r (w .state .mssp) .config) ≡ sspmOf (w .state .mssp .config))
-    refl refl refl refl refl refl refl refl (λ n h. refl) number
+    let m = w .state .mssp in
+    by-choice (λ (n : Module). sspmOf (n .config) ≡ sspmOf (m .config)) (isBUF (registerOf number)) {a = emptied m} {b = m} (λ e. refl) refl
 call-mode w (writeRegister number value) other on stays =
     let m = w .state .mssp in let r = registerOf number in
-    refused-mode value m (written r value m) (accepted (verdictOf r value m)) (write-mode value m number) on stays
+    by-choice (λ (n : Module). KeepsMode (m .config) (n .config)) (accepted (verdictOf r value m)) (write-mode value m number) (λ on stays. refl) on stays
 call-mode w (feedSample level) other on stays =
     ap (λ (x : ℕ × ℕ). x .1) (step-stands (ltb level 4) false (w .state) (w .bytes) level)
 call-mode w (callHandler start n) other on stays =

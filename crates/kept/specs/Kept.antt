@@ -3,10 +3,11 @@ use Prim.Native.Nat.{ℕ}
 use mathlib.Core.Path.{_≡_, refl, sym}
 use mathlib.Core.Bool.{Bool, true, false, true≢false, cond, _||_, _&&_, not}
 use lib.Dec.{T, eqb→eq}
-use Rattle.truth.specs.Tests.{and-both, and-left, and-right, or-left, or-right}
+use Rattle.truth.specs.Tests.{and-both, and-left, and-right, or-left, or-right, by-choice}
 use Rattle.wire.specs.Byte.{bit}
 use Rattle.wire.specs.Wire.{edgeOf, onWire}
 use Rattle.refusals.specs.Numbers.{accepted}
+use Rattle.refusals.specs.Laws.{none-holds}
 use Rattle.mssp.specs.declared.Phase.{Phase}
 use Rattle.mssp.specs.declared.Phase.the-variants.{Quiet, Address, Data, HeldBefore, Slot, HeldForSending, Sending, MasterAcknowledge}
 use Rattle.mssp.specs.declared.Module.{Module}
@@ -18,9 +19,8 @@ use Rattle.mssp.specs.Valid.{Valid, bitsFit, noBits, partsFit, addressBegins, m
 use Rattle.sampling.specs.Rules.{seenIf, sampled}
 use Rattle.registers.specs.declared.Register.{Register}
 use Rattle.registers.specs.declared.Register.the-variants.{Buf, Stat, Con1, Con2, Con3, Add, Msk, Flag, Nowhere}
-use Rattle.registers.specs.Values.{registerOf, afterRead, readOf}
+use Rattle.registers.specs.Values.{registerOf, isBUF, afterRead, readOf}
 use Rattle.writes.specs.Writes.{con1Config, con1Stored, con1Then, written, writeCauses, verdictOf, writeOf}
-use Rattle.writes.specs.Laws.{none-holds}
 use Rattle.kept.specs.Edges.{edge-stepped, rise-short, eight-kept, mark-kept}
 
 -- ---- set-up
@@ -94,15 +94,7 @@ same m n ph line s p ckp on mode v =
     }
 
 pub read-kept : (r : Register) (m : Module) → Valid m → Valid (afterRead r m)
-read-kept Buf m v = same m (emptied m) refl refl refl refl refl refl refl v
-read-kept Stat m v = v
-read-kept Con1 m v = v
-read-kept Con2 m v = v
-read-kept Con3 m v = v
-read-kept Add m v = v
-read-kept Msk m v = v
-read-kept Flag m v = v
-read-kept Nowhere m v = v
+read-kept r m v = by-choice Valid (isBUF r) (λ e. same m (emptied m) refl refl refl refl refl refl refl v) v
 
 -- An accepted write to CON1 leaves a mode that is modelled, or the module off.
 accepted-mode : (on fits : Bool) → on && not fits ≡ false → T (not on || fits)
@@ -200,7 +192,7 @@ write-kept Buf v m a h = same m (written Buf v m) refl refl refl refl refl refl 
 write-kept Stat v m a h = same m (written Stat v m) refl refl refl refl refl refl refl h
 write-kept Con1 v m a h =
     con1-kept (m .config .sspen && not (bit 5 v)) (bit 4 v) v m refl refl
-    (accepted-mode (bit 5 v) (modelled (bit 3 v) (bit 2 v) (bit 1 v) (bit 0 v)) (none-holds (writeCauses Con1 v m) a .1 .1 .0)) h
+    (accepted-mode (bit 5 v) (modelled (bit 3 v) (bit 2 v) (bit 1 v) (bit 0 v)) (none-holds 0 (writeCauses Con1 v m) a .1 .1 .0)) h
 write-kept Con2 v m a h = same m (written Con2 v m) refl refl refl refl refl refl refl h
 write-kept Con3 v m a h = same m (written Con3 v m) refl refl refl refl refl refl refl h
 write-kept Add v m a h = same m (written Add v m) refl refl refl refl refl refl refl h
@@ -209,14 +201,9 @@ write-kept Flag v m a h = same m (written Flag v m) refl refl refl refl refl ref
 write-kept Nowhere v m a h = h
 
 -- By number: an accepted write keeps the state a state, and a refused one leaves it.
-write-either : (ok : Bool) (m n : Module) → (ok ≡ true → Valid n) → Valid m → Valid (cond ok n m)
-write-either true m n f h = f refl
-write-either false m n f h = h
-
 pub access-read-kept : (m : Module) (number : ℕ) → Valid m → Valid (readOf m number .mssp)
 access-read-kept m number v = read-kept (registerOf number) m v
 
 pub access-write-kept : (m : Module) (number v : ℕ) → Valid m → Valid (writeOf m number v .mssp)
 access-write-kept m number v h =
-    write-either (accepted (verdictOf (registerOf number) v m)) m (written (registerOf number) v m)
-    (λ a. write-kept (registerOf number) v m a h) h
+    by-choice Valid (accepted (verdictOf (registerOf number) v m)) (λ a. write-kept (registerOf number) v m a h) h

@@ -1,6 +1,8 @@
--- The numbers of the refusals (01, "Calls, refusals and their order", the table; 02, 6), and which verdict accepts.
+-- The numbers of the refusals (01, "Calls, refusals and their order", the table; 02, 6), which verdict accepts, and the
+-- first of several causes.
 use Prim.Native.Nat.{ℕ}
-use mathlib.Core.Bool.{Bool, true, false}
+use mathlib.Core.Bool.{Bool, true, false, cond}
+use mathlib.Core.List.{List, [], _∷_}
 use Rattle.refusals.specs.declared.Refusal.{Refusal}
 use Rattle.refusals.specs.declared.Refusal.the-variants.{NoState, NoRegister, ReservedBit, NoMode, ModeChange, NoWindow, NoItem, PastRecord}
 use Rattle.refusals.specs.declared.Verdict.{Verdict}
@@ -22,3 +24,8 @@ numberOf PastRecord = 7
 abbrev pub accepted : Verdict → Bool
 accepted (Done v) = true
 accepted (Refused why) = false
+
+-- Causes in the order in which they are looked at: the first that holds refuses, and where none does the value is answered.
+abbrev pub firstCause : ℕ → List (Bool × Refusal) → Verdict
+firstCause value [] = Done value
+firstCause value (cause ∷ rest) = cond (cause .0) (Refused (cause .1)) (firstCause value rest)

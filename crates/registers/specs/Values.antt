@@ -1,11 +1,12 @@
 -- The registers by number, and what a read gives and changes (01, "Register numbers").
 use Prim.Native.Nat.{ℕ}
-use mathlib.Core.Bool.{cond}
+use mathlib.Core.Bool.{Bool, cond}
+use mathlib.Core.List.{[], _∷_}
 use mir.Val.{boolByte}
 use lib.Dec.{eqb}
 use Rattle.refusals.specs.declared.Refusal.the-variants.{NoRegister}
 use Rattle.refusals.specs.declared.Verdict.{Verdict}
-use Rattle.refusals.specs.declared.Verdict.the-variants.{Done, Refused}
+use Rattle.refusals.specs.Numbers.{firstCause}
 use Rattle.mssp.specs.declared.Config.{Config}
 use Rattle.mssp.specs.declared.Live.{Live}
 use Rattle.mssp.specs.declared.Module.{Module}
@@ -39,6 +40,21 @@ registerNumber Msk = 6
 registerNumber Flag = 7
 registerNumber Nowhere = 8
 
+abbrev pub isNowhere : Register → Bool
+isNowhere r = eqb (registerNumber r) 8
+
+abbrev pub isBUF : Register → Bool
+isBUF r = eqb (registerNumber r) 0
+
+abbrev pub isCON1 : Register → Bool
+isCON1 r = eqb (registerNumber r) 2
+
+abbrev pub isCON2 : Register → Bool
+isCON2 r = eqb (registerNumber r) 3
+
+abbrev pub isCON3 : Register → Bool
+isCON3 r = eqb (registerNumber r) 4
+
 -- What a register holds. Of the flag register only SSPIF is not 0.
 abbrev pub valueOf : Config → Live → Register → ℕ
 valueOf c l Buf = l .buf
@@ -56,27 +72,11 @@ accessOf verdict m = record { verdict = verdict; mssp = m }
 
 -- A register answers what it holds; a number above 7 is refused.
 abbrev pub readVerdict : Register → ℕ → Verdict
-readVerdict Buf held = Done held
-readVerdict Stat held = Done held
-readVerdict Con1 held = Done held
-readVerdict Con2 held = Done held
-readVerdict Con3 held = Done held
-readVerdict Add held = Done held
-readVerdict Msk held = Done held
-readVerdict Flag held = Done held
-readVerdict Nowhere held = Refused NoRegister
+readVerdict r held = firstCause held ((isNowhere r, NoRegister) ∷ [])
 
 -- A read of BUF clears BF, other reads change nothing.
 abbrev pub afterRead : Register → Module → Module
-afterRead Buf m = emptied m
-afterRead Stat m = m
-afterRead Con1 m = m
-afterRead Con2 m = m
-afterRead Con3 m = m
-afterRead Add m = m
-afterRead Msk m = m
-afterRead Flag m = m
-afterRead Nowhere m = m
+afterRead r m = cond (isBUF r) (emptied m) m
 
 abbrev pub readOf : Module → ℕ → Access
 readOf m number =

@@ -6,6 +6,7 @@ use mathlib.Core.List.{List, [], _∷_, map}
 use native.Mathlib.Omega.{arith}
 use lib.Dec.{T, ltb}
 use lib.ListN.{length}
+use Rattle.truth.specs.Tests.{by-choice}
 use Rattle.refusals.specs.declared.Refusal.the-variants.{NoWindow}
 use Rattle.mssp.specs.declared.Module.{Module}
 use Rattle.mssp.specs.Module.{setup}
@@ -38,17 +39,13 @@ acknowledged-kept : (s : State) → Valid (s .mssp) → Valid (acknowledged s .m
 acknowledged-kept s v =
     record { parts = v .parts; condition = v .condition; mode = v .mode; off = v .off; mark = v .mark; eight = v .eight; hold = v .hold }
 
-either : (t : Bool) (m n : Module) → Valid m → Valid n → Valid (cond t m n)
-either true m n v w = v
-either false m n v w = w
-
 module _ (bytes : List ℕ) where
   serve-module : (sends da : Bool) (s : State) → Valid (s .mssp) → Valid (serve sends da s bytes .state .mssp)
   serve-module true da s v =
       let m = s .mssp in
       let read : Module = cond (m .live .da) m (emptied m) in
       let byte : ℕ = peeked (memoryIn s bytes) in
-      released-kept (loaded byte read) (loaded-kept byte read (either (m .live .da) m (emptied m) v (emptied-kept m v)))
+      released-kept (loaded byte read) (loaded-kept byte read (by-choice Valid (m .live .da) (λ e. v) (emptied-kept m v)))
   serve-module false true s v = released-kept (emptied (s .mssp)) (emptied-kept (s .mssp) v)
   serve-module false false s v = released-kept (emptied (s .mssp)) (emptied-kept (s .mssp) v)
 

@@ -1,6 +1,6 @@
 -- Laws of tests: what two tests together say, and the two ways that one can come out.
 use mathlib.Core.Path.{_≡_, refl, sym}
-use mathlib.Core.Bool.{Bool, true, false, true≢false, _&&_, _||_}
+use mathlib.Core.Bool.{Bool, true, false, true≢false, cond, _&&_, _||_}
 use lib.Dec.{T}
 
 pub and-both : (a b : Bool) → T a → T b → T (a && b)
@@ -31,6 +31,11 @@ or-false false = refl
 pub by-test {ℓ} : {P : Type ℓ} (t : Bool) → (t ≡ true → P) → (t ≡ false → P) → P
 by-test true f g = f refl
 by-test false f g = g refl
+
+-- What holds of both that a test chooses from, of the first at least where the test holds, holds of the one chosen.
+pub by-choice : {A : Type 0} (P : A → Type 0) (t : Bool) {a b : A} → (t ≡ true → P a) → P b → P (cond t a b)
+by-choice P true f q = f refl
+by-choice P false f q = q
 
 -- A test that failed did not hold.
 pub never {ℓ} : {P : Type ℓ} → false ≡ true → P

@@ -5,17 +5,16 @@ use mathlib.Core.Bool.{Bool, true, false, cond, _&&_, not}
 use mathlib.Core.List.{List, [], _∷_}
 use lib.Dec.{eqb}
 use Rattle.wire.specs.Byte.{bit}
-use Rattle.refusals.specs.Numbers.{accepted}
+use Rattle.refusals.specs.Numbers.{accepted, firstCause}
 use Rattle.refusals.specs.declared.Refusal.{Refusal}
 use Rattle.refusals.specs.declared.Refusal.the-variants.{NoRegister, ReservedBit, NoMode, ModeChange}
 use Rattle.refusals.specs.declared.Verdict.{Verdict}
-use Rattle.refusals.specs.declared.Verdict.the-variants.{Done, Refused}
 use Rattle.mssp.specs.declared.Config.{Config}
 use Rattle.mssp.specs.declared.Module.{Module}
 use Rattle.mssp.specs.Module.{moduleOf, modelled, setSTAT, setCON1, setCON2, setCON3, setADD, setMSK, setCKP, setSSPOV, setSSPIF}
 use Rattle.effects.specs.Effects.{loaded, released, disabled}
 use Rattle.register_bytes.specs.Bytes.{sspmOf}
-use Rattle.registers.specs.Values.{registerOf, registerNumber, accessOf}
+use Rattle.registers.specs.Values.{registerOf, isNowhere, isCON1, isCON2, isCON3, accessOf}
 use Rattle.registers.specs.declared.Register.{Register}
 use Rattle.registers.specs.declared.Register.the-variants.{Buf, Stat, Con1, Con2, Con3, Add, Msk, Flag, Nowhere}
 use Rattle.registers.specs.declared.Access.{Access}
@@ -69,15 +68,9 @@ written Flag v m = flagWritten v m
 written Nowhere v m = m
 
 -- ---- why a write is refused
-abbrev pub isNowhere : Register → Bool
-isNowhere r = eqb (registerNumber r) 8
-
-abbrev pub isCON1 : Register → Bool
-isCON1 r = eqb (registerNumber r) 2
-
 -- A bit of the master is set in CON2, or BOEN in CON3.
 abbrev pub setsReserved : Register → ℕ → Bool
-setsReserved r v = cond (eqb (registerNumber r) 3) (not (eqb (v / 2 % 16) 0)) (eqb (registerNumber r) 4 && bit 4 v)
+setsReserved r v = cond (isCON2 r) (not (eqb (v / 2 % 16) 0)) (isCON3 r && bit 4 v)
 
 -- SSPEN 1 in CON1 with a mode that is not modelled.
 abbrev pub noMode : ℕ → Bool
@@ -87,11 +80,6 @@ noMode v = bit 5 v && not (modelled (bit 3 v) (bit 2 v) (bit 1 v) (bit 0 v))
 abbrev pub modeChange : Bool → ℕ → ℕ → Bool
 modeChange on mode v = on && bit 5 v && not (eqb (v % 16) mode)
 
--- The first cause that holds, of causes in their order.
-abbrev pub firstCause : List (Bool × Refusal) → Verdict
-firstCause [] = Done 0
-firstCause (cause ∷ rest) = cond (cause .0) (Refused (cause .1)) (firstCause rest)
-
 -- Why a write is refused, in the paper's order: by the register, the value and the module that it finds.
 abbrev pub writeCauses : Register → ℕ → Module → List (Bool × Refusal)
 writeCauses r v m =
@@ -99,7 +87,7 @@ writeCauses r v m =
     ∷ (isCON1 r && modeChange (m .config .sspen) (sspmOf (m .config)) v, ModeChange) ∷ []
 
 abbrev pub verdictOf : Register → ℕ → Module → Verdict
-verdictOf r v m = firstCause (writeCauses r v m)
+verdictOf r v m = firstCause 0 (writeCauses r v m)
 
 -- A refused write leaves the module that was given.
 abbrev pub writeOf : Module → ℕ → ℕ → Access
