@@ -43,7 +43,7 @@ use Rattle.settling.specs.Left.{ImageOfSome}
 use Rattle.settling.specs.Theorems.{stays}
 use Rattle.firmware_calls.specs.Calls.{setupIf, doorSetup, settledWork}
 use Rattle.firmware_calls.specs.Theorems.{setup-keeps}
-use Rattle.module_calls.specs.Calls.{moduleIn, imageWith, levelVerdict}
+use Rattle.module_calls.specs.Calls.{moduleIn, imageWith, levelVerdict, doorLook}
 use Rattle.doorkept.specs.Image.{setup-leaves, read-stays, write-stays, sample-stays, call-stays, run-stays}
 use Rattle.demands.specs.Calls.{DoorCall, setUp, readRegister, writeRegister, feedSample, callHandler, runTrace, Host, host, Reply, reply, answers, leftAfter, atDoor, told, inWindow, madeOf, byDefinition, ImageOf, ImageOfNone, shownCON1}
 use Rattle.demands.specs.Demands.{DemandTwo}
@@ -66,6 +66,18 @@ pub on-state :
     {A : Type 0} (nothing : A) (work : State → A) (s : State) → T (validState s) → byState (decodeOf (encodeOf s)) nothing work ≡ work s
 unfolding byState
 on-state nothing work s v = rw (decode-encode s v)
+
+-- SSPEN and SSPM as a look shows them are the state's.
+pub shown-is :
+    (s : State) (h : Host) → ImageOf s (h .state)
+    → (bit 5 (shownCON1 h) ≡ s .mssp .config .sspen) × (shownCON1 h % 16 ≡ sspmOf (s .mssp .config))
+shown-is s h image =
+    let c = s .mssp .config in let l = s .mssp .live in
+    let look : doorLook (h .state) ≡ viewOf s = subst (λ (b : List ℕ). doorLook b ≡ viewOf s) (image .0) (on-state noView viewOf s (image .1)) in
+    let is : shownCON1 h ≡ con1Of c l = ap (λ (v : View). v .con1) look in (
+      rw is (bits-back (c .wcol) (l .sspov) (c .sspen) (l .ckp) (c .sspm3) (c .sspm2) (c .sspm1) (c .sspm0) .is5),
+      rw is (packed-half (c .wcol) (l .sspov) (c .sspen) (l .ckp) (c .sspm3) (c .sspm2) (c .sspm1) (c .sspm0)),
+    )
 
 -- ---- one call
 -- A read that is refused leaves the module as it was.
@@ -211,15 +223,4 @@ demand-two s h calls image =
       (ap (λ (x : Host). x .state) (sym (k .left)), k .valid),
       ap (λ (x : Host). x .buffer) (k .left),
       rw (k .left) (on-state noView viewOf (leftAfter byDefinition w calls .state) (k .valid)),
-    )
-
--- SSPEN and SSPM as a look shows them are the state's.
-pub shown-is :
-    (s : State) (h : Host) → ImageOf s (h .state)
-    → (bit 5 (shownCON1 h) ≡ s .mssp .config .sspen) × (shownCON1 h % 16 ≡ sspmOf (s .mssp .config))
-shown-is s h image =
-    let c = s .mssp .config in let l = s .mssp .live in
-    let is : shownCON1 h ≡ con1Of c l = ap (λ (v : View). v .con1) (demand-two s h [] image .3) in (
-      rw is (bits-back (c .wcol) (l .sspov) (c .sspen) (l .ckp) (c .sspm3) (c .sspm2) (c .sspm1) (c .sspm0) .is5),
-      rw is (packed-half (c .wcol) (l .sspov) (c .sspen) (l .ckp) (c .sspm3) (c .sspm2) (c .sspm1) (c .sspm0)),
     )
