@@ -1,5 +1,5 @@
 -- Demand 1: one outcome for every call, nothing changed that may not be, and refusals exactly for their causes.
-use Prim.Native.Nat.{ℕ, zero, suc, _+_, _/_, _%_, _<_, _≤_}
+use Prim.Native.Nat.{ℕ, _+_, _/_, _%_, _<_, _≤_}
 use mathlib.Core.Logic.{_⊎_, inl, inr, ⊎-elim, _↔_}
 use mathlib.Core.Path.{_≡_, refl, sym, ap, ap₂, subst, _∙_}
 use mathlib.Core.Bool.{Bool, true, false, true≢false, cond, _&&_, not, and-false}
@@ -9,16 +9,14 @@ use native.Mathlib.Omega.{arith}
 use lib.Dec.{eqb, leb, ltb}
 use lib.ListN.{length}
 use borrow.Author.Tests.{eqb-true, eqb-false, eq-eqb, ne-eqb, leb-false, lt-leb, ltb-true, ltb-false, lt-ltb, le-ltb, not-true}
-use Rattle.truth.specs.Tests.{never, by-test, and-first, and-second}
+use Rattle.truth.specs.Tests.{never, by-test, by-choice, and-first, and-second}
 use Rattle.items.specs.First.{firstAbove, FirstAbove}
 use Rattle.items.specs.Theorems.{first-above, none-above}
 use Rattle.refusals.specs.declared.Refusal.{Refusal}
 use Rattle.refusals.specs.declared.Refusal.the-variants.{NoState, NoWindow, NoItem}
 use Rattle.refusals.specs.declared.Verdict.{Verdict}
-use Rattle.refusals.specs.declared.Verdict.the-variants.{Done, Refused}
 use Rattle.refusals.specs.Numbers.{numberOf, firstCause}
 use Rattle.wire.specs.Byte.{bit}
-use Rattle.mssp.specs.declared.Module.{Module}
 use Rattle.mssp.specs.Module.{modelled, setup}
 use Rattle.register_bytes.specs.Bytes.{byteOf, sspmOf}
 use Rattle.register_bytes.specs.Bits.{small, half-back}
@@ -216,18 +214,13 @@ other-mode v = rw (half-back v) at (half-other (bit 3 v) (bit 2 v) (bit 1 v) (bi
 pub by-register :
     (P : ℕ → Register → Type 0) → P 0 Buf → P 1 Stat → P 2 Con1 → P 3 Con2 → P 4 Con3 → P 5 Add → P 6 Msk → P 7 Flag
     → ((number : ℕ) → 7 < number → P number Nowhere) → (number : ℕ) → P number (registerOf number)
-by-register P p0 p1 p2 p3 p4 p5 p6 p7 above zero = p0
-by-register P p0 p1 p2 p3 p4 p5 p6 p7 above (suc zero) = p1
-by-register P p0 p1 p2 p3 p4 p5 p6 p7 above (suc (suc zero)) = p2
-by-register P p0 p1 p2 p3 p4 p5 p6 p7 above (suc (suc (suc zero))) = p3
-by-register P p0 p1 p2 p3 p4 p5 p6 p7 above (suc (suc (suc (suc zero)))) = p4
-by-register P p0 p1 p2 p3 p4 p5 p6 p7 above (suc (suc (suc (suc (suc zero))))) = p5
-by-register P p0 p1 p2 p3 p4 p5 p6 p7 above (suc (suc (suc (suc (suc (suc zero)))))) = p6
-by-register P p0 p1 p2 p3 p4 p5 p6 p7 above (suc (suc (suc (suc (suc (suc (suc zero))))))) = p7
-by-register P p0 p1 p2 p3 p4 p5 p6 p7 above (suc (suc (suc (suc (suc (suc (suc (suc k)))))))) =
-    let number : ℕ = suc (suc (suc (suc (suc (suc (suc (suc k))))))) in
-    let other : (i : ℕ) → i ≤ 7 → eqb number i ≡ false = λ i h. ne-eqb number i (λ e. omega arith) in
-    rw (other 0 (omega arith), other 1 (omega arith), other 2 (omega arith), other 3 (omega arith), other 4 (omega arith), other 5 (omega arith), other 6 (omega arith), other 7 (omega arith)) (above number (omega arith))
+by-register P p0 p1 p2 p3 p4 p5 p6 p7 above number =
+    choose 0 (omega arith) p0 (λ h. choose 1 h p1 (λ h. choose 2 h p2 (λ h. choose 3 h p3 (λ h. choose 4 h p4 (λ h. choose 5 h p5 (λ h.
+    choose 6 h p6 (λ h. choose 7 h p7 (above number))))))))
+  where
+    choose : (k : ℕ) {r rest : Register} → k ≤ number → P k r → (k < number → P number rest) → P number (cond (eqb number k) r rest)
+    choose k low p more =
+        by-choice (P number) (eqb number k) (λ e. rw (eqb-true number k e) p) (λ e. more (omega (arith, eqb-false number k e)))
 
 register-is : (k number : ℕ) → k ≤ 7 → (eqb (registerNumber (registerOf number)) k ≡ true) ↔ (number ≡ k)
 register-is k number low =

@@ -106,7 +106,7 @@ seen-stands false m scl sda = refl
 serve-stands : (sends da : Bool) (s : State) (bytes : List ℕ) → standing (serve sends da s bytes .state) ≡ standing s
 serve-stands true da s bytes =
     let m = s .mssp in
-    rw (by-choice (λ (n : Module). n .config ≡ m .config) (m .live .da) {a = m} {b = emptied m} (λ e. refl) refl)
+    rw (by-choice (λ (n : Module). n .config ≡ m .config) (m .live .da) {a = m} {b = emptied m} (λ e. refl) (λ e. refl))
 serve-stands false true s bytes = refl
 serve-stands false false s bytes = refl
 

@@ -42,19 +42,19 @@ con1-config false true m = refl
 con1-config false false m = refl
 
 module _ (v : ℕ) (m : Module) where
-  abbrev Accepts : Register → Type 0
-  Accepts r = accepted (verdictOf r v m) ≡ true → KeepsMode (m .config) (written r v m .config)
+  abbrev TakenKeepsMode : Register → Type 0
+  TakenKeepsMode r = accepted (verdictOf r v m) ≡ true → KeepsMode (m .config) (written r v m .config)
 
-  con1-mode : Accepts Con1
+  con1-mode : TakenKeepsMode Con1
   con1-mode a on stays =
       let c = m .config in
       let is = con1-config (c .sspen && not (bit 5 v)) (bit 4 v) (con1Stored v m) in
       let same = rw (on, rw is at stays) at (none-holds 0 (writeCauses Con1 v m) a .1 .1 .1 .0) in
       rw is (half-back v ∙ eqb-true (v % 16) (sspmOf c) (not-false (eqb (v % 16) (sspmOf c)) same))
 
-  write-mode : (number : ℕ) → Accepts (registerOf number)
+  write-mode : (number : ℕ) → TakenKeepsMode (registerOf number)
   write-mode =
-      by-register (λ number r. Accepts r) (λ a on stays. refl) (λ a on stays. refl) con1-mode (λ a on stays. refl) (λ a on stays. refl)
+      by-register (λ number r. TakenKeepsMode r) (λ a on stays. refl) (λ a on stays. refl) con1-mode (λ a on stays. refl) (λ a on stays. refl)
       (λ a on stays. refl) (λ a on stays. refl) (λ a on stays. refl) (λ number h a on stays. refl)
 
 -- ---- every call but a setup
@@ -71,10 +71,10 @@ call-mode :
 call-mode w (setUp add n) other on stays = absurd (other add n refl)
 call-mode w (readRegister number) other on stays =
     let m = w .state .mssp in
-    by-choice (λ (n : Module). sspmOf (n .config) ≡ sspmOf (m .config)) (isBUF (registerOf number)) {a = emptied m} {b = m} (λ e. refl) refl
+    by-choice (λ (n : Module). sspmOf (n .config) ≡ sspmOf (m .config)) (isBUF (registerOf number)) {a = emptied m} {b = m} (λ e. refl) (λ e. refl)
 call-mode w (writeRegister number value) other on stays =
     let m = w .state .mssp in let r = registerOf number in
-    by-choice (λ (n : Module). KeepsMode (m .config) (n .config)) (accepted (verdictOf r value m)) (write-mode value m number) (λ on stays. refl) on stays
+    by-choice (λ (n : Module). KeepsMode (m .config) (n .config)) (accepted (verdictOf r value m)) (write-mode value m number) (λ e on stays. refl) on stays
 call-mode w (feedSample level) other on stays =
     ap (λ (x : ℕ × ℕ). x .1) (step-stands (ltb level 4) false (w .state) (w .bytes) level)
 call-mode w (callHandler start n) other on stays =

@@ -1,7 +1,7 @@
 -- A state stays a state: after set-up, and after every sample, read and accepted write.
 use Prim.Native.Nat.{ℕ}
-use mathlib.Core.Path.{_≡_, refl, sym}
-use mathlib.Core.Bool.{Bool, true, false, true≢false, cond, _||_, _&&_, not}
+use mathlib.Core.Path.{_≡_, refl}
+use mathlib.Core.Bool.{Bool, true, false, true≢false, _||_, _&&_, not}
 use lib.Dec.{T, eqb→eq}
 use Rattle.truth.specs.Tests.{and-both, and-left, and-right, or-left, or-right, by-choice}
 use Rattle.wire.specs.Byte.{bit}
@@ -94,7 +94,7 @@ same m n ph line s p ckp on mode v =
     }
 
 pub read-kept : (r : Register) (m : Module) → Valid m → Valid (afterRead r m)
-read-kept r m v = by-choice Valid (isBUF r) (λ e. same m (emptied m) refl refl refl refl refl refl refl v) v
+read-kept r m v = by-choice Valid (isBUF r) (λ e. same m (emptied m) refl refl refl refl refl refl refl v) (λ e. v)
 
 -- An accepted write to CON1 leaves a mode that is modelled, or the module off.
 accepted-mode : (on fits : Bool) → on && not fits ≡ false → T (not on || fits)
@@ -206,4 +206,4 @@ access-read-kept m number v = read-kept (registerOf number) m v
 
 pub access-write-kept : (m : Module) (number v : ℕ) → Valid m → Valid (writeOf m number v .mssp)
 access-write-kept m number v h =
-    by-choice Valid (accepted (verdictOf (registerOf number) v m)) (λ a. write-kept (registerOf number) v m a h) h
+    by-choice Valid (accepted (verdictOf (registerOf number) v m)) (λ a. write-kept (registerOf number) v m a h) (λ a. h)

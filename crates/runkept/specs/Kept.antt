@@ -45,7 +45,7 @@ module _ (bytes : List ℕ) where
       let m = s .mssp in
       let read : Module = cond (m .live .da) m (emptied m) in
       let byte : ℕ = peeked (memoryIn s bytes) in
-      released-kept (loaded byte read) (loaded-kept byte read (by-choice Valid (m .live .da) (λ e. v) (emptied-kept m v)))
+      released-kept (loaded byte read) (loaded-kept byte read (by-choice Valid (m .live .da) (λ e. v) (λ e. emptied-kept m v)))
   serve-module false true s v = released-kept (emptied (s .mssp)) (emptied-kept (s .mssp) v)
   serve-module false false s v = released-kept (emptied (s .mssp)) (emptied-kept (s .mssp) v)
 

@@ -32,10 +32,10 @@ pub by-test {ℓ} : {P : Type ℓ} (t : Bool) → (t ≡ true → P) → (t ≡ 
 by-test true f g = f refl
 by-test false f g = g refl
 
--- What holds of both that a test chooses from, of the first at least where the test holds, holds of the one chosen.
-pub by-choice : {A : Type 0} (P : A → Type 0) (t : Bool) {a b : A} → (t ≡ true → P a) → P b → P (cond t a b)
-by-choice P true f q = f refl
-by-choice P false f q = q
+-- What holds of the one that a test chooses, by what holds of both, each where it is chosen.
+pub by-choice : {A : Type 0} (P : A → Type 0) (t : Bool) {a b : A} → (t ≡ true → P a) → (t ≡ false → P b) → P (cond t a b)
+by-choice P true f g = f refl
+by-choice P false f g = g refl
 
 -- A test that failed did not hold.
 pub never {ℓ} : {P : Type ℓ} → false ≡ true → P
