@@ -36,7 +36,7 @@ extern "C" {
 #define WHERRYOAR_NO_WINDOW 5       /* window not inside its buffer or not of the setup's length; n outside 1 to 256 */
 #define WHERRYOAR_NO_STATE 6        /* the bytes are no state's image; at setup, not 48 bytes */
 #define WHERRYOAR_PAST_RECORD 7     /* the finder's item number is not below the record's length */
-#define WHERRYOAR_MODE_CHANGE 8     /* a write to CON1 with SSPEN 1 where SSPEN is 1, and another SSPM than the one that stands */
+#define WHERRYOAR_MODE_CHANGE 8     /* a write to CON1 with another SSPM, while SSPEN is 1 and stays so */
 
 /* Register numbers. */
 #define WHERRYOAR_BUF 0

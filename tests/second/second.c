@@ -646,7 +646,7 @@ second_answer second_read(uint8_t *state, size_t state_length, uint32_t number)
     return answer(DONE, value, 0);
 }
 
-/* Whether a write to CON1 leaves SSPEN at 1 and changes SSPM. */
+/* Whether a write to CON1 brings another mode to a module that runs, and is to run on. */
 static int changes_mode_under_way(const module *m, uint8_t value)
 {
     int stays_enabled = any(m, CON1, SSPEN) && (value & SSPEN);
