@@ -11,8 +11,9 @@
      than the memory behind its pointer; a pointer may be null only where its length is 0.
    - The library keeps no state of its own, allocates nothing and calls nothing: calls on different states may run on
      different threads at once; two calls on one state or one buffer may not.
-   - An image is good for this version of the library. A version whose images differ gives them another length, so that an
-     older image is refused with 6 and never misread. Its layout is in docs/LAYOUT.md.
+   - An image is good for this version of the library. One of an older version means the same or is refused with 6, and is
+     never misread: from 0.3.0 only an acknowledge slot that does not pull is refused, since it did not say whether the byte
+     was refused. The layout is in docs/LAYOUT.md.
    - Compiled for x86-64.                                                                                             */
 #ifndef WHERRYOAR_H
 #define WHERRYOAR_H
@@ -84,7 +85,8 @@ typedef struct {
     uint8_t phase;                                         /* 0 to 7, as above */
     uint8_t bits;      /* address, data: bits so far, 0 to 8; sending: the place, 0 to 7; else 0 */
     uint8_t byte;      /* address, data: those bits as a number; sending: the byte; else 0 */
-    uint8_t refused;   /* held before acknowledge: 1 where the byte was refused; else 0 */
+    uint8_t refused;   /* held before acknowledge, slot: 1 where BF or SSPOV refused the byte, which sets SSPIF when the slot
+                          ends; 0 where it is acknowledged, or declined by ACKDT (no SSPIF), and in every other phase */
     uint8_t wire;      /* the remembered wire, 0 to 3; 255: none yet */
     uint8_t mark;      /* 1: a Start has come and SCL has not been low since */
     uint8_t due;       /* 1: the next data byte is the pointer */

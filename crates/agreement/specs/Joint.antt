@@ -7,6 +7,7 @@ use mathlib.Core.List.{List, [], _∷_, _++_}
 use lib.ListN.{length}
 use Rattle.wire.specs.Wire.{onWire, sclHigh}
 use Rattle.mssp.specs.Module.{setup}
+use Rattle.mssp.specs.Phases.{isRefused}
 use Rattle.mssp.specs.Drivers.{sclPulled, sdaPulled}
 use Rattle.memory.specs.Memory.{Memory, memoryOf}
 use Rattle.firmware.specs.declared.State.{State}
@@ -143,6 +144,10 @@ pub record Agrees (add : ℕ) (j : Joint) : Type 0 where
   pub once : EndedByOneCall j
   pub owed : PulledWhereOwed add j
   pub acknowledged : HeldAfterAcknowledge j
+
+-- The last intake was not refused: neither its hold nor its slot is, and SSPOV is 0.
+abbrev pub NotRefused : Joint → Type 0
+NotRefused j = (isRefused (j .state .mssp .phase) ≡ false) × (j .state .mssp .live .sspov ≡ false)
 
 -- ---- before the first Start
 -- No Start is heard during a run.

@@ -1,4 +1,4 @@
--- The bench examples P1 to P12 (01, "Bench examples"), one table and one statement over the definitions that the code is
+-- The bench examples P1 to P12 (01, "Bench examples"; 02, 4), one table and one statement over the definitions that the code is
 -- proved against: items played by `afterAll`.
 use Prim.Native.Nat.{ℕ, zero, suc, _+_, _/_, _%_, _^_}
 use mathlib.Core.Bool.{Bool, true, false, _&&_, not}
@@ -53,9 +53,14 @@ workedItems =
     trace
     (3 ∷ 2 ∷ 0 ∷ 2 ∷ 0 ∷ 2 ∷ 1 ∷ 3 ∷ 1 ∷ 3 ∷ 0 ∷ 2 ∷ 0 ∷ 2 ∷ 0 ∷ 2 ∷ 0 ∷ 2 ∷ 1 ∷ 3 ∷ 1 ∷ 4 ∷ 0 ∷ 2 ∷ 3 ∷ [])
 
--- P8: the address byte is not read away, the clock is let go by a write to CON1, a data byte comes.
+-- P8: the address byte is not read away, SSPIF is cleared, the clock let go by a write to CON1, and a data byte comes, up to
+-- its eighth fall.
 abbrev pub overflow : List Item
-overflow = opening 0x30 ++ (ninth 1 ++ (Write 2 0x36 ∷ byte 0xAA))
+overflow = opening 0x30 ++ (ninth 1 ++ (Write 7 0 ∷ Write 2 0x36 ∷ byte 0xAA))
+
+-- P9: BUF is read, SSPOV is still 1, and the next byte comes, likewise.
+abbrev pub stillOverflown : List Item
+stillOverflown = overflow ++ (Read 0 ∷ (restart ++ byte 0x31))
 
 -- P12: the pointer set to 30, then a read; the byte is on from the end of the hold.
 abbrev pub reading : List Item
@@ -123,9 +128,11 @@ table =
     -- P7: GCEN 1
     ∷ case memory32 (Write 3 0x81 ∷ opening 0x00) (λ w. pulls w)
     ∷ case memory32 (Write 3 0x81 ∷ opening 0x01) (λ w. quiet w)
-    -- P8: BF 1 at a data byte; P9: BF read away, SSPOV still 1
-    ∷ case memory32 overflow (λ w. flag (λ l. l .sspov) w && buf 0x30 w && not (pulls w))
-    ∷ case memory32 (overflow ++ (Read 0 ∷ (restart ++ byte 0x31))) (λ w. flag (λ l. l .sspov) w && buf 0x31 w && flag (λ l. l .bf) w && not (pulls w))
+    -- P8: BF 1 at a data byte; P9: BF read away, SSPOV still 1. SSPIF is 0 after the eighth fall, 1 after the ninth
+    ∷ case memory32 overflow (λ w. flag (λ l. l .sspov) w && buf 0x30 w && not (pulls w) && not (flag (λ l. l .sspif) w))
+    ∷ case memory32 (overflow ++ ninth 1) (λ w. flag (λ l. l .sspif) w && quiet w)
+    ∷ case memory32 stillOverflown (λ w. flag (λ l. l .sspov) w && buf 0x31 w && flag (λ l. l .bf) w && not (pulls w) && not (flag (λ l. l .sspif) w))
+    ∷ case memory32 (stillOverflown ++ ninth 1) (λ w. flag (λ l. l .sspif) w && quiet w)
     -- P10
     ∷ case memory32 (begin ++ (given 0x30 ++ (given 0x1F ++ (given 0xAA ++ given 0xBB)))) (λ w. stored 31 0xAA w && stored 0 0xBB w && pointer 1 w)
     -- P11: modulo n; with n 1 always 0, whichever byte comes

@@ -10,6 +10,7 @@ use Rattle.wire.specs.Byte.{bit, none, pushed}
 use Rattle.address.specs.Match.{matching}
 use Rattle.mssp.specs.declared.Config.{Config}
 use Rattle.mssp.specs.declared.Live.{Live}
+use Rattle.mssp.specs.declared.SlotCase.the-variants.{Pulls}
 use Rattle.mssp.specs.declared.Phase.{Phase}
 use Rattle.mssp.specs.declared.Phase.the-variants.{Quiet, Address, Data, Slot, HeldForSending, Sending, MasterAcknowledge}
 use Rattle.mssp.specs.declared.Module.{Module}
@@ -90,10 +91,10 @@ pub data Runs (add : ℕ) : Kind → ℕ → Bool → Bool → Bool → Bool →
       {v : ℕ} {da rw ks l d : Bool} {b : Bits} → Runs add off v false da rw ks (Address b) (Wire l d) (Within true b)
   slot-low :
       {kind : Kind} {first : Bool} {v : ℕ} {da rw ks d : Bool} → Acknowledges add kind first v da rw
-      → Runs add kind v true da rw ks (Slot true) (Wire false d) (Ending first v Waiting)
+      → Runs add kind v true da rw ks (Slot Pulls) (Wire false d) (Ending first v Waiting)
   slot-high :
       {kind : Kind} {first : Bool} {v : ℕ} {da rw ks : Bool} → Acknowledges add kind first v da rw
-      → Runs add kind v true da rw ks (Slot true) (Wire true false) (Ending first v (Got false))
+      → Runs add kind v true da rw ks (Slot Pulls) (Wire true false) (Ending first v (Got false))
   taking :
       {v : ℕ} {da ks l d : Bool} {b : Bits} → Runs add writing v false da false ks (Data b false) (Wire l d) (Within false b)
   sent-low :

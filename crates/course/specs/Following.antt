@@ -20,6 +20,7 @@ use Rattle.mssp.specs.declared.Phase.{Phase}
 use Rattle.mssp.specs.declared.Phase.the-variants.{Quiet, Sending}
 use Rattle.mssp.specs.declared.Module.{Module}
 use Rattle.mssp.specs.Module.{moduleOf, chosen}
+use Rattle.mssp.specs.Phases.{isRefused}
 use Rattle.mssp.specs.Drivers.{sclPulled, sdaPulled}
 use Rattle.sampling.specs.declared.Moved.{Moved}
 use Rattle.sampling.specs.Rules.{edgeStep, seenIf, seen, sampled}
@@ -190,18 +191,19 @@ sample-follows {m = m} l d a (waits {d = before} {mark = mark} {ph = ph} f) =
     rw (seen-enabled m scl sda (a .enabled)) (looks l d a (waits f) (move mark (Wire false before) scl sda))
 
 -- ---- what the module pulls
-pub not-held :
+-- While the clock is free it is not pulled; and no byte of this course was refused.
+pub clear :
     {add v : ℕ} {kind : Kind} {bf da rw ks : Bool} {ph : Phase} {z : Remembered} {place : Place}
-    → Runs add kind v bf da rw ks ph z place → sclPulled ph ≡ false
-not-held (apart f) = refl
-not-held addressing = refl
-not-held (slot-low f) = refl
-not-held (slot-high f) = refl
-not-held taking = refl
-not-held (sent-low h) = refl
-not-held (sent-high b y h) = refl
-not-held asked-low = refl
-not-held asked-high = refl
+    → Runs add kind v bf da rw ks ph z place → (sclPulled ph ≡ false) × (isRefused ph ≡ false)
+clear (apart f) = (refl, refl)
+clear addressing = (refl, refl)
+clear (slot-low f) = (refl, refl)
+clear (slot-high f) = (refl, refl)
+clear taking = (refl, refl)
+clear (sent-low h) = (refl, refl)
+clear (sent-high b y h) = (refl, refl)
+clear asked-low = (refl, refl)
+clear asked-high = (refl, refl)
 
 -- While SCL is high the bit just taken is the one on the wire.
 just-taken : (count : ℕ) → count < 8 → count ≡ pred (count % 8 + 1)

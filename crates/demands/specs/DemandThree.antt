@@ -5,6 +5,7 @@ use mathlib.Core.Path.{_≡_, refl, sym, ap, _∙_, subst}
 use mathlib.Core.Bool.{Bool, true, false, true≢false, cond, _||_}
 use mathlib.Core.List.{List, [], _∷_, map, _++_}
 use native.Mathlib.Omega.{arith}
+use mir.Val.{boolByte}
 use lib.Dec.{T, eqb, ltb}
 use lib.ListN.{length, take, drop, take-append-drop, length-append, length-drop, List·getD-append}
 use lib.Seq.{length-take-le, take-at, drop-at, getD-append-add}
@@ -12,13 +13,17 @@ use borrow.Author.Tests.{ltb-false, lt-ltb, le-ltb, eq-eqb, le-leb}
 use Rattle.truth.specs.Tests.{by-test, by-choice}
 use Rattle.items.specs.Theorems.{none-above, none-first}
 use Rattle.refusals.specs.declared.Refusal.the-variants.{NoWindow}
+use Rattle.wire.specs.Byte.{bit}
 use Rattle.wire.specs.Wire.{sclOf, sdaOf, onWire}
+use Rattle.mssp.specs.declared.Config.{Config}
+use Rattle.mssp.specs.declared.Live.{Live}
 use Rattle.mssp.specs.declared.Module.{Module}
 use Rattle.mssp.specs.Module.{setup}
 use Rattle.mssp.specs.Drivers.{sclPulled, sdaPulled}
 use Rattle.effects.specs.Effects.{emptied}
 use Rattle.sampling.specs.Rules.{seenIf}
 use Rattle.register_bytes.specs.Bytes.{sspmOf}
+use Rattle.register_bytes.specs.Bits.{bits-back}
 use Rattle.firmware.specs.declared.State.{State}
 use Rattle.firmware.specs.declared.Made.the-variants.{Ready, NotMade}
 use Rattle.firmware.specs.Handler.{isWindowLength, Served, served, stateOf, handlerOf, acknowledged, serve, calledIf}
@@ -32,8 +37,9 @@ use Rattle.trace.specs.Window.{SameOutside}
 use Rattle.trace.specs.Theorems.{run-length, window-length, splice-outside}
 use Rattle.agreement.specs.Joint.{Joint, run, afresh, SamplesAndCalls, ended, sample, call as call-more, Agrees}
 use Rattle.agreement.specs.Record.{joint-run-is-the-run}
-use Rattle.agreement.specs.Demand.{demand-three}
+use Rattle.agreement.specs.Demand.{demand-three, no-intake-refused}
 use Rattle.image.specs.Image.{imageLength, validState, encodeOf, decodeOf}
+use Rattle.view.specs.declared.View.{View}
 use Rattle.view.specs.View.{viewOf, noView}
 use Rattle.settling.specs.declared.Answer.{Answer}
 use Rattle.settling.specs.Outcome.{Outcome, outcome, byState, done}
@@ -41,8 +47,8 @@ use Rattle.settling.specs.Left.{ImageOfSome}
 use Rattle.firmware_calls.specs.Calls.{setupIf, doorSetup}
 use Rattle.doorkept.specs.Image.{setup-leaves}
 use Rattle.demands.specs.Calls.{DoorCall, setUp, readRegister, runTrace, Host, host, Reply, reply, answers, leftAfter, atDoor, hasWindow, inWindow, byDefinition, AllItems, Asks, a-run, a-sample, a-call, Feeds, nothing, one-more}
-use Rattle.demands.specs.Demands.{SetupRegisters, RunIsCalls, DemandThree}
-use Rattle.demands.specs.DemandTwo.{image-is, on-state, follows, imageHost, by-image, SameAsDefined}
+use Rattle.demands.specs.Demands.{SetupRegisters, RunIsCalls, DemandThree, NoneRefused}
+use Rattle.demands.specs.DemandTwo.{image-is, on-state, look-is, follows, imageHost, by-image, SameAsDefined}
 
 -- ---- setup
 -- The state that an accepted setup makes.
@@ -291,3 +297,14 @@ demand-three-at-door add start n h calls items long low high inside feeds good =
     outside =
         splice-outside start n (joint .bytes) (h .buffer) inside
         (ap (λ (w : Served). length (w .bytes)) (sym ran) ∙ run-length (madeFor add n) window items ∙ sized)
+
+pub none-refused : NoneRefused
+none-refused add bytes items h good image =
+    let joint : Joint = run (length bytes) add (afresh add bytes) (map itemAt items) in
+    let c : Config = joint .state .mssp .config in let l : Live = joint .state .mssp .live in
+    let look = look-is (joint .state) h image in
+    let none = no-intake-refused add bytes (map itemAt items) (samples-and-calls items good) in (
+      ap (λ (v : View). v .refused) look ∙ ap boolByte (none .0),
+      ap (λ (v : View). bit 6 (v .con1)) look
+          ∙ bits-back (c .wcol) (l .sspov) (c .sspen) (l .ckp) (c .sspm3) (c .sspm2) (c .sspm1) (c .sspm0) .is6 ∙ none .1,
+    )

@@ -67,14 +67,17 @@ pub on-state :
 unfolding byState
 on-state nothing work s v = rw (decode-encode s v)
 
+-- What a look shows is the state.
+pub look-is : (s : State) (h : Host) → ImageOf s (h .state) → doorLook (h .state) ≡ viewOf s
+look-is s h image = subst (λ (b : List ℕ). doorLook b ≡ viewOf s) (image .0) (on-state noView viewOf s (image .1))
+
 -- SSPEN and SSPM as a look shows them are the state's.
 pub shown-is :
     (s : State) (h : Host) → ImageOf s (h .state)
     → (bit 5 (shownCON1 h) ≡ s .mssp .config .sspen) × (shownCON1 h % 16 ≡ sspmOf (s .mssp .config))
 shown-is s h image =
     let c = s .mssp .config in let l = s .mssp .live in
-    let look : doorLook (h .state) ≡ viewOf s = subst (λ (b : List ℕ). doorLook b ≡ viewOf s) (image .0) (on-state noView viewOf s (image .1)) in
-    let is : shownCON1 h ≡ con1Of c l = ap (λ (v : View). v .con1) look in (
+    let is : shownCON1 h ≡ con1Of c l = ap (λ (v : View). v .con1) (look-is s h image) in (
       rw is (bits-back (c .wcol) (l .sspov) (c .sspen) (l .ckp) (c .sspm3) (c .sspm2) (c .sspm1) (c .sspm0) .is5),
       rw is (packed-half (c .wcol) (l .sspov) (c .sspen) (l .ckp) (c .sspm3) (c .sspm2) (c .sspm1) (c .sspm0)),
     )

@@ -2,9 +2,11 @@
 -- alone: their words are in Calls.antt, their proofs in the other files.
 use Prim.Native.Nat.{ℕ, _+_, _%_, _<_, _≤_}
 use mathlib.Core.Path.{_≡_}
+use mathlib.Core.Bool.{false}
 use mathlib.Core.List.{List, [], _∷_, map}
 use lib.ListN.{length}
 use Rattle.items.specs.First.{FirstAbove}
+use Rattle.wire.specs.Byte.{bit}
 use Rattle.memory.specs.Memory.{peeked}
 use Rattle.firmware.specs.declared.State.{State}
 use Rattle.firmware.specs.Handler.{longestWindow, Served, served, stateOf, memoryIn, called}
@@ -88,6 +90,14 @@ DemandThree =
     × (after .buffer ≡ splice start n (joint .bytes) (h .buffer))
     × Agrees add joint
     × SameOutside start n (h .buffer) (after .buffer)
+
+-- ---- why demand 3 knows no refused byte: with the handler alone no intake is ever refused. Of every state that it speaks of, the
+-- bytes being that state's image, look shows `refused` 0 and SSPOV, bit 6 of CON1, 0.
+abbrev pub NoneRefused : Type 0
+NoneRefused =
+    (add : ℕ) (bytes items : List ℕ) (h : Host) → AllItems items
+    → ImageOf (run (length bytes) add (afresh add bytes) (map itemAt items) .state) (h .state)
+    → (doorLook (h .state) .refused ≡ 0) × (bit 6 (shownCON1 h) ≡ false)
 
 -- ---- a run is the calls one after the other: however its items are fed, in runs, samples and handler calls, where the run is
 -- accepted each of these is, and they leave the same bytes and buffer

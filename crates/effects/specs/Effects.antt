@@ -6,7 +6,7 @@ use Rattle.mssp.specs.declared.Phase.{Phase}
 use Rattle.mssp.specs.declared.Phase.the-variants.{Quiet, Address, Data, HeldBefore, Slot, HeldForSending, Sending, MasterAcknowledge}
 use Rattle.mssp.specs.declared.Module.{Module}
 use Rattle.wire.specs.declared.Line.{Line}
-use Rattle.mssp.specs.Phases.{isHeldForSending}
+use Rattle.mssp.specs.Phases.{slotAfter, isHeldForSending}
 use Rattle.mssp.specs.Module.{moduleOf, setS, setP, setDA, setRW, setBF, setACKTIM, setBUF, setCKP, setWCOL}
 
 -- A read of BUF clears BF.
@@ -23,14 +23,14 @@ loadedIf held byte m =
 abbrev pub loaded : ℕ → Module → Module
 loaded byte m = loadedIf (isHeldForSending (m .phase)) byte m
 
--- CKP = 1 ends a hold: before data the bits come, before an acknowledge the slot follows, pulling unless refused or
--- declined by ACKDT; before sending the byte in BUF goes out.
+-- CKP = 1 ends a hold: before data the bits come, before an acknowledge the slot follows, pulling unless the byte was
+-- refused or ACKDT declines it; before sending the byte in BUF goes out.
 abbrev pub releasedPhase : Bool → ℕ → Phase → Phase
 releasedPhase ackdt buf Quiet = Quiet
 releasedPhase ackdt buf (Address bits) = Address bits
 releasedPhase ackdt buf (Data bits held) = Data bits false
-releasedPhase ackdt buf (HeldBefore refused) = Slot (not (refused || ackdt))
-releasedPhase ackdt buf (Slot pulling) = Slot pulling
+releasedPhase ackdt buf (HeldBefore refused) = Slot (slotAfter refused ackdt)
+releasedPhase ackdt buf (Slot slot) = Slot slot
 releasedPhase ackdt buf HeldForSending = Sending buf 0
 releasedPhase ackdt buf (Sending byte place) = Sending byte place
 releasedPhase ackdt buf MasterAcknowledge = MasterAcknowledge

@@ -39,7 +39,7 @@ fn release_phase(phase: Phase, ackdt: bool, buf: u8) -> Phase
         Phase::Quiet => phase,
         Phase::Address(_) => phase,
         Phase::Data(bits, _) => Phase::Data(bits, false),
-        Phase::HeldBefore(refused) => Phase::Slot(!(refused | ackdt)),
+        Phase::HeldBefore(refused) => Phase::Slot(mssp::slot_after(refused, ackdt)),
         Phase::Slot(_) => phase,
         Phase::HeldForSending => Phase::Sending(buf, 0),
         Phase::Sending(_, _) => phase,

@@ -10,12 +10,13 @@ use lib.Seq.{take-all, drop-cons}
 use native.Mathlib.Omega.{arith}
 use native.Mathlib.Numerals.{add-one}
 use Rattle.codec.specs.Codec.{sameBytes}
+use Rattle.wire.specs.Laws.{bool-back}
 use Rattle.mssp.specs.declared.Module.{Module}
 use Rattle.firmware.specs.declared.Handler.{Handler}
 use Rattle.firmware.specs.declared.State.{State}
 use Rattle.firmware.specs.Handler.{stateOf}
 use Rattle.module_image.specs.ModulePart.{moduleLength, modulePart, moduleFrom}
-use Rattle.module_image.specs.Laws.{mark-back, module-back}
+use Rattle.module_image.specs.Laws.{module-back}
 use Rattle.image.specs.HandlerPart.{low, high, word, handlerPart, handlerFrom}
 use Rattle.image.specs.Image.{imageLength, validState, encodeOf, parseOf, decodeOf}
 
@@ -24,7 +25,7 @@ word-back : (n : ℕ) → word (low n) (high n) ≡ n
 word-back n = omega arith
 
 pub handler-back : (h : Handler) (rest : List ℕ) → handlerFrom (handlerPart h ++ rest) ≡ h
-handler-back h rest = simp (word-back, mark-back)
+handler-back h rest = simp (word-back, bool-back)
 
 pub parse-encode : (s : State) → parseOf (encodeOf s) ≡ s
 unfolding parseOf encodeOf

@@ -20,10 +20,11 @@ use Rattle.wire.specs.Laws.{one}
 use Rattle.address.specs.Match.{matching}
 use Rattle.mssp.specs.declared.Config.{Config}
 use Rattle.mssp.specs.declared.Live.{Live}
+use Rattle.mssp.specs.declared.SlotCase.the-variants.{Pulls, Refuses, Declines}
 use Rattle.mssp.specs.declared.Phase.{Phase}
 use Rattle.mssp.specs.declared.Phase.the-variants.{Quiet, Address, Data, HeldBefore, Slot, HeldForSending, Sending, MasterAcknowledge}
 use Rattle.mssp.specs.Module.{setDA, setRW}
-use Rattle.mssp.specs.Phases.{eightBits}
+use Rattle.mssp.specs.Phases.{slotAfter, eightBits}
 use Rattle.mssp.specs.Valid.{bitsFit, partsFit, addressBegins, oneCondition, markFits, eightFit, holdFits}
 use Rattle.sampling.specs.declared.Moved.{Moved}
 use Rattle.sampling.specs.Rules.{_at_, intake, addressIf, addressFallIf, dataFallIf, bitSentIf, fallen, risen, edgeStep}
@@ -53,7 +54,7 @@ pub record Settled (l : Live) (n : Moved) : Type 0 where
   pub stop : n .live .p ≡ l .p
 
 -- A hold that is asked for comes with CKP 0.
-held-low : (hold refused ckp : Bool) → T (holdFits (cond hold (HeldBefore refused) (Slot (not refused))) (ckp && not hold))
+held-low : (hold refused ckp : Bool) → T (holdFits (cond hold (HeldBefore refused) (Slot (slotAfter refused false))) (ckp && not hold))
 held-low true refused true = tt
 held-low true refused false = tt
 held-low false refused ckp = tt
@@ -65,8 +66,8 @@ chosen P false x y hx hy = hy
 intake-settled : (c : Config) (l k : Live) (byte : ℕ) (hold : Bool) → l .s ≡ k .s → l .p ≡ k .p → Settled k (intake c l byte hold)
 intake-settled c l k byte hold es ep =
     record {
-      parts = chosen partsFit hold (HeldBefore (l .bf || l .sspov)) (Slot (not (l .bf || l .sspov))) tt tt;
-      short = chosen (λ ph. not (eightBits ph)) hold (HeldBefore (l .bf || l .sspov)) (Slot (not (l .bf || l .sspov))) tt tt;
+      parts = chosen partsFit hold (HeldBefore (l .bf || l .sspov)) (Slot (slotAfter (l .bf || l .sspov) false)) tt tt;
+      short = chosen (λ ph. not (eightBits ph)) hold (HeldBefore (l .bf || l .sspov)) (Slot (slotAfter (l .bf || l .sspov) false)) tt tt;
       hold = held-low hold (l .bf || l .sspov) (l .ckp);
       start = es;
       stop = ep;
@@ -86,13 +87,12 @@ data-fall-settled :
 data-fall-settled c l bits held true e h k = intake-settled c (setDA true l) l (bits .value) (c .dhen) refl refl
 data-fall-settled c l bits held false e h k = record { parts = h; short = rw e tt; hold = k; start = refl; stop = refl }
 
-slot-low : (pulling send sen ckp : Bool) → T (holdFits (cond pulling (cond send HeldForSending (Data none sen)) Quiet) (ckp && not (pulling && (send || sen))))
-slot-low false send sen ckp = tt
-slot-low true true sen true = tt
-slot-low true true sen false = tt
-slot-low true false false ckp = tt
-slot-low true false true true = tt
-slot-low true false true false = tt
+slot-low : (send sen ckp : Bool) → T (holdFits (cond send HeldForSending (Data none sen)) (ckp && not (send || sen)))
+slot-low true sen true = tt
+slot-low true sen false = tt
+slot-low false false ckp = tt
+slot-low false true true = tt
+slot-low false true false = tt
 
 sen-fits : (sen : Bool) → T (partsFit (Data none sen))
 sen-fits true = tt
@@ -114,15 +114,17 @@ fall-settled c l Quiet h k = record { parts = tt; short = tt; hold = tt; start =
 fall-settled c l (Address bits) h k = address-fall-settled c l bits (whole bits) refl h
 fall-settled c l (Data bits held) h k = data-fall-settled c l bits held (whole bits) refl h k
 fall-settled c l (HeldBefore refused) h k = record { parts = tt; short = tt; hold = k; start = refl; stop = refl }
-fall-settled c l (Slot pulling) h k =
+fall-settled c l (Slot Pulls) h k =
     let send : Bool = not (l .da) && l .rw in
     record {
-      parts = chosen partsFit pulling _ Quiet (chosen partsFit send HeldForSending (Data none (c .sen)) tt (sen-fits (c .sen))) tt;
-      short = chosen (λ ph. not (eightBits ph)) pulling _ Quiet (chosen (λ ph. not (eightBits ph)) send HeldForSending (Data none (c .sen)) tt tt) tt;
-      hold = slot-low pulling send (c .sen) (l .ckp);
+      parts = chosen partsFit send HeldForSending (Data none (c .sen)) tt (sen-fits (c .sen));
+      short = chosen (λ ph. not (eightBits ph)) send HeldForSending (Data none (c .sen)) tt tt;
+      hold = slot-low send (c .sen) (l .ckp);
       start = refl;
       stop = refl;
     }
+fall-settled c l (Slot Refuses) h k = record { parts = tt; short = tt; hold = tt; start = refl; stop = refl }
+fall-settled c l (Slot Declines) h k = record { parts = tt; short = tt; hold = tt; start = refl; stop = refl }
 fall-settled c l HeldForSending h k = record { parts = tt; short = tt; hold = k; start = refl; stop = refl }
 fall-settled c l (Sending byte place) h k = sent-settled l byte place (ltb place 7) refl
 fall-settled c l MasterAcknowledge h k =
@@ -148,7 +150,7 @@ rise-fits l (Address bits) sda h k s = record { parts = bits-pushed bits sda h s
 rise-fits l (Data bits true) sda h k s = record { parts = h; hold = k; start = refl; stop = refl }
 rise-fits l (Data bits false) sda h k s = record { parts = bits-pushed bits sda h s; hold = tt; start = refl; stop = refl }
 rise-fits l (HeldBefore refused) sda h k s = record { parts = tt; hold = k; start = refl; stop = refl }
-rise-fits l (Slot pulling) sda h k s = record { parts = tt; hold = tt; start = refl; stop = refl }
+rise-fits l (Slot slot) sda h k s = record { parts = tt; hold = tt; start = refl; stop = refl }
 rise-fits l HeldForSending sda h k s = record { parts = tt; hold = k; start = refl; stop = refl }
 rise-fits l (Sending byte place) sda h k s = record { parts = h; hold = tt; start = refl; stop = refl }
 rise-fits l MasterAcknowledge sda h k s = record { parts = tt; hold = tt; start = refl; stop = refl }

@@ -4,8 +4,8 @@ use mathlib.Core.Path.{_≡_, refl}
 use mathlib.Core.Bool.{Bool, true, false}
 use mathlib.Core.List.{List, _++_}
 use mir.Val.{boolByte}
-use lib.Dec.{eqb}
 use Rattle.wire.specs.Byte.{bit}
+use Rattle.wire.specs.Laws.{bool-back}
 use Rattle.mssp.specs.declared.Config.{Config}
 use Rattle.mssp.specs.declared.Live.{Live}
 use Rattle.mssp.specs.declared.Module.{Module}
@@ -17,10 +17,6 @@ use Rattle.module_image.specs.ModulePart.{configFrom, liveFrom, modulePa
 bit-back : (b : Bool) → bit 0 (boolByte b) ≡ b
 bit-back true = refl
 bit-back false = refl
-
-pub mark-back : (b : Bool) → eqb (boolByte b) 1 ≡ b
-mark-back true = refl
-mark-back false = refl
 
 -- The eight registers as they read hold every bit of the module.
 registers-back :
@@ -39,4 +35,4 @@ registers-back c l =
 pub module-back : (m : Module) (rest : List ℕ) → moduleFrom (modulePart m ++ rest) ≡ m
 module-back m rest =
     let back = registers-back (m .config) (m .live) in
-    rw (back .0, back .1) (simp (mark-back, phase-back, wire-back))
+    rw (back .0, back .1) (simp (bool-back, phase-back, wire-back))

@@ -33,7 +33,7 @@ modulePart m =
     ∷ valueOf (m .config) (m .live) Add
     ∷ valueOf (m .config) (m .live) Msk
     ∷ valueOf (m .config) (m .live) Flag
-    ∷ phaseNumber (m .phase) ∷ bitsOf (m .phase) .count ∷ bitsOf (m .phase) .value ∷ boolByte (phaseMark (m .phase))
+    ∷ phaseNumber (m .phase) ∷ bitsOf (m .phase) .count ∷ bitsOf (m .phase) .value ∷ phaseMark (m .phase)
     ∷ wireByte (m .line .remembered) ∷ boolByte (m .line .mark) ∷ 0 ∷ 0 ∷ []
 
 -- ---- the way back: which bit of which register is which
@@ -54,5 +54,5 @@ moduleFrom b =
     moduleOf
     (configFrom (getD b 1 0) (getD b 2 0) (getD b 3 0) (getD b 4 0) (getD b 5 0) (getD b 6 0))
     (liveFrom (getD b 0 0) (getD b 1 0) (getD b 2 0) (getD b 3 0) (getD b 4 0) (getD b 7 0))
-    (phaseFrom (getD b 8 0) (getD b 9 0) (getD b 10 0) (eqb (getD b 11 0) 1))
+    (phaseFrom (getD b 8 0) (getD b 9 0) (getD b 10 0) (getD b 11 0))
     (lineFrom (getD b 12 0) (getD b 13 0))

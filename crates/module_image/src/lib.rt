@@ -30,7 +30,7 @@ pub fn module_part(m: Module) -> [u8; MODULE_LENGTH]
         mssp::phase_number(phase),
         bits.count,
         bits.value,
-        mssp::phase_mark(phase) as u8,
+        mssp::phase_mark(phase),
         phase_image::wire_byte(remembered),
         line.mark as u8,
         0,
@@ -93,7 +93,7 @@ pub fn module_from(b: &[u8]) -> Module
     Module {
         config: config_from(stat, con1, con2, con3, peek(b, 5), peek(b, 6)),
         live: live_from(peek(b, 0), stat, con1, con2, con3, peek(b, 7)),
-        phase: phase_image::phase_from(peek(b, 8), peek(b, 9), peek(b, 10), peek(b, 11) == 1),
+        phase: phase_image::phase_from(peek(b, 8), peek(b, 9), peek(b, 10), peek(b, 11)),
         line: Line {
             remembered: phase_image::wire_from(peek(b, 12)),
             mark: peek(b, 13) == 1,

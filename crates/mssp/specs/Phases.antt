@@ -1,12 +1,26 @@
 -- The phases (01, "From levels to bytes"): the number and the parts of each, which are listed here and nowhere else, and what is
 -- asked of a phase, which is read off them.
 use Prim.Native.Nat.{ℕ}
-use mathlib.Core.Bool.{Bool, false, _&&_, _||_}
+use mathlib.Core.Bool.{Bool, cond, _&&_, _||_}
+use mir.Val.{boolByte}
 use lib.Dec.{eqb}
 use Rattle.wire.specs.declared.Bits.{Bits}
 use Rattle.wire.specs.Byte.{none, whole}
+use Rattle.mssp.specs.declared.SlotCase.{SlotCase}
+use Rattle.mssp.specs.declared.SlotCase.the-variants.{Pulls, Refuses, Declines}
 use Rattle.mssp.specs.declared.Phase.{Phase}
 use Rattle.mssp.specs.declared.Phase.the-variants.{Quiet, Address, Data, HeldBefore, Slot, HeldForSending, Sending, MasterAcknowledge}
+
+-- ---- the slot
+-- Its cases by number. 0 is none: it stood for a slot that did not pull when a slot did not yet tell why (02, 4).
+abbrev pub slotNumber : SlotCase → ℕ
+slotNumber Pulls = 1
+slotNumber Refuses = 2
+slotNumber Declines = 3
+
+-- The slot of a byte that came in: pulling unless its intake was refused or ACKDT declines; where both are, it is refused.
+abbrev pub slotAfter : Bool → Bool → SlotCase
+slotAfter refused declined = cond refused Refuses (cond declined Declines Pulls)
 
 -- ---- the lists
 -- A phase's number, in the order in which the paper names them.
@@ -15,7 +29,7 @@ phaseNumber Quiet = 0
 phaseNumber (Address bits) = 1
 phaseNumber (Data bits held) = 2
 phaseNumber (HeldBefore refused) = 3
-phaseNumber (Slot pulling) = 4
+phaseNumber (Slot slot) = 4
 phaseNumber HeldForSending = 5
 phaseNumber (Sending byte place) = 6
 phaseNumber MasterAcknowledge = 7
@@ -26,21 +40,21 @@ bitsOf Quiet = none
 bitsOf (Address bits) = bits
 bitsOf (Data bits held) = bits
 bitsOf (HeldBefore refused) = none
-bitsOf (Slot pulling) = none
+bitsOf (Slot slot) = none
 bitsOf HeldForSending = none
 bitsOf (Sending byte place) = record { count = place; value = byte }
 bitsOf MasterAcknowledge = none
 
--- The part of it that is one of two: held, refused, pulling.
-abbrev pub phaseMark : Phase → Bool
-phaseMark Quiet = false
-phaseMark (Address bits) = false
-phaseMark (Data bits held) = held
-phaseMark (HeldBefore refused) = refused
-phaseMark (Slot pulling) = pulling
-phaseMark HeldForSending = false
-phaseMark (Sending byte place) = false
-phaseMark MasterAcknowledge = false
+-- The part of it that is one of a few: 1 where it is held or refused, a slot's case by its number.
+abbrev pub phaseMark : Phase → ℕ
+phaseMark Quiet = 0
+phaseMark (Address bits) = 0
+phaseMark (Data bits held) = boolByte held
+phaseMark (HeldBefore refused) = boolByte refused
+phaseMark (Slot slot) = slotNumber slot
+phaseMark HeldForSending = 0
+phaseMark (Sending byte place) = 0
+phaseMark MasterAcknowledge = 0
 
 -- ---- which phase it is
 abbrev pub isQuiet : Phase → Bool
@@ -72,6 +86,10 @@ isMasterAcknowledge ph = eqb (phaseNumber ph) 7
 -- Bits come in an address and in data.
 abbrev pub hasBits : Phase → Bool
 hasBits ph = isAddress ph || isData ph
+
+-- Its byte was refused at the intake, in the hold before the acknowledge and in the slot.
+abbrev pub isRefused : Phase → Bool
+isRefused ph = isHeldBefore ph && eqb (phaseMark ph) 1 || isSlot ph && eqb (phaseMark ph) (slotNumber Refuses)
 
 -- Eight bits have come, and not yet the fall after them.
 abbrev pub eightBits : Phase → Bool

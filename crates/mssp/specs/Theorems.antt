@@ -6,6 +6,7 @@ use mathlib.Core.Bool.{Bool, true, false}
 use Rattle.truth.specs.Tests.{never}
 use Rattle.wire.specs.declared.Bits.{Bits}
 use Rattle.wire.specs.Byte.{zeroAt}
+use Rattle.mssp.specs.declared.SlotCase.the-variants.{Pulls, Refuses, Declines}
 use Rattle.mssp.specs.declared.Phase.{Phase}
 use Rattle.mssp.specs.declared.Phase.the-variants.{Quiet, Address, Data, HeldBefore, Slot, HeldForSending, Sending, MasterAcknowledge}
 use Rattle.mssp.specs.Drivers.{sclPulled, sdaPulled}
@@ -18,7 +19,7 @@ pub data Holds : Phase → Type 0 where
 
 -- A low SDA: a pulling slot, or a 0 bit of the byte being sent.
 pub data Lowers : Phase → Type 0 where
-  acknowledges : Lowers (Slot true)
+  acknowledges : Lowers (Slot Pulls)
   sends-zero : {byte place : ℕ} → zeroAt byte place ≡ true → Lowers (Sending byte place)
 
 -- SCL is pulled exactly in the three holds.
@@ -28,7 +29,7 @@ scl-holds (Address bits) h = never h
 scl-holds (Data bits true) h = before-data
 scl-holds (Data bits false) h = never h
 scl-holds (HeldBefore refused) h = before-acknowledge
-scl-holds (Slot pulling) h = never h
+scl-holds (Slot slot) h = never h
 scl-holds HeldForSending h = before-sending
 scl-holds (Sending byte place) h = never h
 scl-holds MasterAcknowledge h = never h
@@ -44,8 +45,9 @@ sda-lowers Quiet h = never h
 sda-lowers (Address bits) h = never h
 sda-lowers (Data bits held) h = never h
 sda-lowers (HeldBefore refused) h = never h
-sda-lowers (Slot true) h = acknowledges
-sda-lowers (Slot false) h = never h
+sda-lowers (Slot Pulls) h = acknowledges
+sda-lowers (Slot Refuses) h = never h
+sda-lowers (Slot Declines) h = never h
 sda-lowers HeldForSending h = never h
 sda-lowers (Sending byte place) h = sends-zero h
 sda-lowers MasterAcknowledge h = never h

@@ -2,7 +2,7 @@
 ghost use mathlib.Core.Path.{_≡_};
 ghost use mathlib.Core.Bool.{cond};
 ghost use Rattle.mssp.specs.Module.{modelled, interrupting, fresh, setup};
-ghost use Rattle.mssp.specs.Phases.{phaseNumber, bitsOf, phaseMark, isSending, hasBits, eightBits};
+ghost use Rattle.mssp.specs.Phases.{slotNumber, slotAfter, phaseNumber, bitsOf, phaseMark, isSending, hasBits, eightBits};
 ghost use Rattle.mssp.specs.Drivers.{sclPulled, sdaPulled};
 use wire::Bits;
 use wire::Line;
@@ -46,6 +46,22 @@ pub struct Live {
     pub buf: u8,
 }
 
+// What a slot answers to its byte. There is no fourth: a byte that was refused is not acknowledged, whatever ACKDT says.
+pub enum SlotCase {
+    Pulls,
+    // BF or SSPOV stood at the intake
+    Refuses,
+    // ACKDT was 1 at the release from the hold before it
+    Declines,
+}
+
+// The cases of a slot by number. 0 is none of them.
+pub const PULLS: u8 = 1;
+
+pub const REFUSES: u8 = 2;
+
+pub const DECLINES: u8 = 3;
+
 // Where the module stands in a message, with what that place needs.
 pub enum Phase {
     Quiet,
@@ -55,8 +71,7 @@ pub enum Phase {
     Data(Bits, bool),
     // refused or not
     HeldBefore(bool),
-    // pulling or not
-    Slot(bool),
+    Slot(SlotCase),
     HeldForSending,
     // the byte; its place, 0 to 7
     Sending(u8, u8),
@@ -119,6 +134,27 @@ pub fn interrupts(c: Config) -> bool
     c.sspm3 & is_modelled(c.sspm3, c.sspm2, c.sspm1, c.sspm0)
 }
 
+// The number of a slot's case.
+fn slot_number(slot: SlotCase) -> u8
+    ensures { λ r. ⌜ r ≡ slotNumber slot ⌝ }
+{
+    match slot {
+        SlotCase::Pulls => PULLS,
+        SlotCase::Refuses => REFUSES,
+        SlotCase::Declines => DECLINES,
+    }
+}
+
+// The slot of a byte that came in: refused or not, declined by ACKDT or not.
+pub fn slot_after(refused: bool, declined: bool) -> SlotCase
+    ensures { λ r. ⌜ r ≡ slotAfter refused declined ⌝ }
+{
+    if refused {
+        return SlotCase::Refuses;
+    }
+    if declined { SlotCase::Declines } else { SlotCase::Pulls }
+}
+
 // The number of a phase.
 pub fn phase_number(phase: Phase) -> u8
     ensures { λ r. ⌜ r ≡ phaseNumber phase ⌝ }
@@ -155,19 +191,19 @@ pub fn bits_of(phase: Phase) -> Bits
     }
 }
 
-// Held, refused or pulling, as the phase has it.
-pub fn phase_mark(phase: Phase) -> bool
+// Held or refused, as the phase has it, is 1; a slot has the number of its case.
+pub fn phase_mark(phase: Phase) -> u8
     ensures { λ r. ⌜ r ≡ phaseMark phase ⌝ }
 {
     match phase {
-        Phase::Quiet => false,
-        Phase::Address(_) => false,
-        Phase::Data(_, held) => held,
-        Phase::HeldBefore(refused) => refused,
-        Phase::Slot(pulling) => pulling,
-        Phase::HeldForSending => false,
-        Phase::Sending(_, _) => false,
-        Phase::MasterAcknowledge => false,
+        Phase::Quiet => 0,
+        Phase::Address(_) => 0,
+        Phase::Data(_, held) => held as u8,
+        Phase::HeldBefore(refused) => refused as u8,
+        Phase::Slot(slot) => slot_number(slot),
+        Phase::HeldForSending => 0,
+        Phase::Sending(_, _) => 0,
+        Phase::MasterAcknowledge => 0,
     }
 }
 
@@ -231,7 +267,7 @@ pub fn pulls_sda(phase: Phase) -> bool
         Phase::Address(_) => false,
         Phase::Data(_, _) => false,
         Phase::HeldBefore(_) => false,
-        Phase::Slot(pulling) => pulling,
+        Phase::Slot(slot) => slot_number(slot) == PULLS,
         Phase::HeldForSending => false,
         Phase::Sending(byte, place) => wire::is_zero_at(byte, place),
         Phase::MasterAcknowledge => false,

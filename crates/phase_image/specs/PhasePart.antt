@@ -1,12 +1,14 @@
 -- A phase from its four bytes; the remembered wire as one, and the way back.
 use Prim.Native.Nat.{ℕ, _+_, _*_}
-use mathlib.Core.Bool.{Bool, cond}
+use mathlib.Core.Bool.{cond}
 use mir.Val.{boolByte}
 use lib.Dec.{eqb}
 use Rattle.wire.specs.declared.Bits.{Bits}
 use Rattle.wire.specs.declared.Remembered.{Remembered}
 use Rattle.wire.specs.declared.Remembered.the-variants.{Nothing, Wire}
 use Rattle.wire.specs.Wire.{sclOf, sdaOf}
+use Rattle.mssp.specs.declared.SlotCase.{SlotCase}
+use Rattle.mssp.specs.declared.SlotCase.the-variants.{Pulls, Refuses, Declines}
 use Rattle.mssp.specs.declared.Phase.{Phase}
 use Rattle.mssp.specs.declared.Phase.the-variants.{Quiet, Address, Data, HeldBefore, Slot, HeldForSending, Sending, MasterAcknowledge}
 
@@ -14,13 +16,17 @@ use Rattle.mssp.specs.declared.Phase.the-variants.{Quiet, Address, Data, HeldBe
 abbrev pub bitsFrom : ℕ → ℕ → Bits
 bitsFrom count byte = record { count = count; value = byte }
 
+-- The case of a slot with that number; declining where no other has it.
+abbrev pub slotFrom : ℕ → SlotCase
+slotFrom number = cond (eqb number 1) Pulls (cond (eqb number 2) Refuses Declines)
+
 -- The phase with that number and these parts; quiet where no other has the number.
-abbrev pub phaseFrom : ℕ → ℕ → ℕ → Bool → Phase
-phaseFrom number count byte marked =
+abbrev pub phaseFrom : ℕ → ℕ → ℕ → ℕ → Phase
+phaseFrom number count byte mark =
     cond (eqb number 1) (Address (bitsFrom count byte))
-    (cond (eqb number 2) (Data (bitsFrom count byte) marked)
-    (cond (eqb number 3) (HeldBefore marked)
-    (cond (eqb number 4) (Slot marked)
+    (cond (eqb number 2) (Data (bitsFrom count byte) (eqb mark 1))
+    (cond (eqb number 3) (HeldBefore (eqb mark 1))
+    (cond (eqb number 4) (Slot (slotFrom mark))
     (cond (eqb number 5) HeldForSending
     (cond (eqb number 6) (Sending byte count)
     (cond (eqb number 7) MasterAcknowledge Quiet))))))

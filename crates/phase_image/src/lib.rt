@@ -1,13 +1,25 @@
 // A phase from its four bytes; the remembered wire as one, and the way back.
 ghost use mathlib.Core.Path.{_≡_};
-ghost use Rattle.phase_image.specs.PhasePart.{phaseFrom, wireByte, wireFrom};
+ghost use Rattle.phase_image.specs.PhasePart.{slotFrom, phaseFrom, wireByte, wireFrom};
 use mssp::Phase;
+use mssp::SlotCase;
 use wire::Bits;
 use wire::Remembered;
 
+// The case of a slot that has the number; a number that no case has gives one with another number.
+fn slot_from(number: u8) -> SlotCase
+    ensures { λ r. ⌜ r ≡ slotFrom number ⌝ }
+{
+    match number {
+        mssp::PULLS => SlotCase::Pulls,
+        mssp::REFUSES => SlotCase::Refuses,
+        _ => SlotCase::Declines,
+    }
+}
+
 // The phase that has the number and these parts.
-pub fn phase_from(number: u8, count: u8, byte: u8, marked: bool) -> Phase
-    ensures { λ r. ⌜ r ≡ phaseFrom number count byte marked ⌝ }
+pub fn phase_from(number: u8, count: u8, byte: u8, mark: u8) -> Phase
+    ensures { λ r. ⌜ r ≡ phaseFrom number count byte mark ⌝ }
 {
     let bits = Bits {
         count: count,
@@ -15,9 +27,9 @@ pub fn phase_from(number: u8, count: u8, byte: u8, marked: bool) -> Phase
     };
     match number {
         mssp::ADDRESS => Phase::Address(bits),
-        mssp::DATA => Phase::Data(bits, marked),
-        mssp::HELD_BEFORE => Phase::HeldBefore(marked),
-        mssp::SLOT => Phase::Slot(marked),
+        mssp::DATA => Phase::Data(bits, mark == 1),
+        mssp::HELD_BEFORE => Phase::HeldBefore(mark == 1),
+        mssp::SLOT => Phase::Slot(slot_from(mark)),
         mssp::HELD_FOR_SENDING => Phase::HeldForSending,
         mssp::SENDING => Phase::Sending(byte, count),
         mssp::MASTER_ACKNOWLEDGE => Phase::MasterAcknowledge,

@@ -10,11 +10,13 @@ use Rattle.wire.specs.Wire.{edgeOf, lineAfter, onWire}
 use Rattle.address.specs.Match.{matching}
 use Rattle.mssp.specs.declared.Config.{Config}
 use Rattle.mssp.specs.declared.Live.{Live}
+use Rattle.mssp.specs.declared.SlotCase.{SlotCase}
+use Rattle.mssp.specs.declared.SlotCase.the-variants.{Pulls, Refuses, Declines}
 use Rattle.mssp.specs.declared.Phase.{Phase}
 use Rattle.mssp.specs.declared.Phase.the-variants.{Quiet, Address, Data, HeldBefore, Slot, HeldForSending, Sending, MasterAcknowledge}
 use Rattle.mssp.specs.declared.Module.{Module}
 use Rattle.mssp.specs.Module.{moduleOf, interrupting, setS, setP, setDA, setRW, setBF, setSSPOV, setCKP, setACKSTAT, setACKTIM, setSSPIF, setBUF}
-use Rattle.mssp.specs.Phases.{isSending}
+use Rattle.mssp.specs.Phases.{slotAfter, isSending}
 use Rattle.mssp.specs.Drivers.{sclPulled, sdaPulled}
 use Rattle.sampling.specs.declared.Moved.{Moved}
 
@@ -40,7 +42,7 @@ abbrev pub intake : Config → Live → ℕ → Bool → Moved
 intake c l byte hold =
     setBUF (cond (l .bf) (l .buf) byte) (setBF true (setSSPOV (l .bf || l .sspov)
     (setACKTIM (l .acktim || (c .ahen || c .dhen)) (setSSPIF (hold || l .sspif) (setCKP (l .ckp && not hold) l)))))
-    at cond hold (HeldBefore (l .bf || l .sspov)) (Slot (not (l .bf || l .sspov)))
+    at cond hold (HeldBefore (l .bf || l .sspov)) (Slot (slotAfter (l .bf || l .sspov) false))
 
 -- Address, at its eighth fall: no match is quiet and nothing else; a match is D/A 0, R/W from bit 0, then intake.
 abbrev pub addressIf : Bool → Config → Live → ℕ → Moved
@@ -69,12 +71,18 @@ dataFallIf false c l bits held = l at Data bits held
 abbrev pub dataFall : Config → Live → Bits → Bool → Moved
 dataFall c l bits held = dataFallIf (whole bits) c l bits held
 
--- Ninth fall: the pull ends. A slot that pulled sets SSPIF; a read address is held for sending, else data with no bits,
--- held if SEN. A slot that did not pull is quiet. A hold is CKP 0.
-abbrev pub slotEnded : Config → Live → Bool → Moved
-slotEnded c l pulling =
-    setSSPIF (pulling || l .sspif) (setCKP (l .ckp && not (pulling && (not (l .da) && l .rw || c .sen))) l)
-    at cond pulling (cond (not (l .da) && l .rw) HeldForSending (Data none (c .sen))) Quiet
+-- Ninth fall of a slot that pulled: SSPIF; a read address is held for sending, else data with no bits, held if SEN. A hold
+-- is CKP 0.
+abbrev pub pullEnded : Config → Live → Moved
+pullEnded c l =
+    setSSPIF true (setCKP (l .ckp && not (not (l .da) && l .rw || c .sen)) l)
+    at cond (not (l .da) && l .rw) HeldForSending (Data none (c .sen))
+
+-- Ninth fall: the pull ends. A byte that was refused sets SSPIF too (02, 4), one that ACKDT declined does not; both are quiet.
+abbrev pub slotEnded : Config → Live → SlotCase → Moved
+slotEnded c l Pulls = pullEnded c l
+slotEnded c l Refuses = setSSPIF true l at Quiet
+slotEnded c l Declines = l at Quiet
 
 -- Sending: falls 1 to 7 move on; the eighth ends the pull, with BF 0 and D/A 1.
 abbrev pub bitSentIf : Bool → Live → ℕ → ℕ → Moved
@@ -96,7 +104,7 @@ fallen c l Quiet = l at Quiet
 fallen c l (Address bits) = addressFall c l bits
 fallen c l (Data bits held) = dataFall c l bits held
 fallen c l (HeldBefore refused) = l at HeldBefore refused
-fallen c l (Slot pulling) = slotEnded c l pulling
+fallen c l (Slot slot) = slotEnded c l slot
 fallen c l HeldForSending = l at HeldForSending
 fallen c l (Sending byte place) = bitSent l byte place
 fallen c l MasterAcknowledge = answered l
@@ -112,7 +120,7 @@ risen l Quiet sda = l at Quiet
 risen l (Address bits) sda = l at Address (pushed bits sda)
 risen l (Data bits held) sda = l at dataRisen bits held sda
 risen l (HeldBefore refused) sda = l at HeldBefore refused
-risen l (Slot pulling) sda = setACKTIM false l at Slot pulling
+risen l (Slot slot) sda = setACKTIM false l at Slot slot
 risen l HeldForSending sda = l at HeldForSending
 risen l (Sending byte place) sda = l at Sending byte place
 risen l MasterAcknowledge sda = setACKSTAT sda l at MasterAcknowledge

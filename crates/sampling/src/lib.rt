@@ -1,10 +1,11 @@
 // From levels to bytes: one function for each rule of the bus, and the sample that runs them.
 ghost use mathlib.Core.Path.{_≡_};
-ghost use Rattle.sampling.specs.Rules.{started, stopped, intake, addressByte, addressFall, dataByte, dataFall, slotEnded, bitSent, answered, fallen, dataRisen, risen, edgeStep, seen, sampled};
+ghost use Rattle.sampling.specs.Rules.{started, stopped, intake, addressByte, addressFall, dataByte, dataFall, pullEnded, slotEnded, bitSent, answered, fallen, dataRisen, risen, edgeStep, seen, sampled};
 use mssp::Config;
 use mssp::Live;
 use mssp::Module;
 use mssp::Phase;
+use mssp::SlotCase;
 use wire::Bits;
 use wire::Edge;
 
@@ -55,7 +56,8 @@ fn take_in(c: Config, l: Live, byte: u8, hold: bool) -> Moved
     n.acktim = l.acktim | (c.ahen | c.dhen);
     n.sspif = hold | l.sspif;
     n.ckp = l.ckp & !hold;
-    let next = mssp::pick_phase(hold, Phase::HeldBefore(refused), Phase::Slot(!refused));
+    let slot = mssp::slot_after(refused, false);
+    let next = mssp::pick_phase(hold, Phase::HeldBefore(refused), Phase::Slot(slot));
     Moved {
         live: n,
         phase: next,
@@ -116,20 +118,40 @@ fn data_fall(c: Config, l: Live, bits: Bits, held: bool) -> Moved
     }
 }
 
-// The ninth fall ends the acknowledge slot.
-fn slot_fall(c: Config, l: Live, pulling: bool) -> Moved
-    ensures { λ r. ⌜ r ≡ slotEnded c l pulling ⌝ }
+// The ninth fall of a slot that pulled: held for sending after a read address, else data follow.
+fn pull_fall(c: Config, l: Live) -> Moved
+    ensures { λ r. ⌜ r ≡ pullEnded c l ⌝ }
 {
     let to_send = !l.da & l.rw;
     let mut n = l;
-    n.sspif = pulling | l.sspif;
-    n.ckp = l.ckp & !(pulling & (to_send | c.sen));
+    n.sspif = true;
+    n.ckp = l.ckp & !(to_send | c.sen);
     let data = Phase::Data(wire::no_bits(), c.sen);
-    let taken = mssp::pick_phase(to_send, Phase::HeldForSending, data);
-    let next = mssp::pick_phase(pulling, taken, Phase::Quiet);
+    let next = mssp::pick_phase(to_send, Phase::HeldForSending, data);
     Moved {
         live: n,
         phase: next,
+    }
+}
+
+// The ninth fall ends the acknowledge slot. A byte that was refused interrupts, one that ACKDT declined does not.
+fn slot_fall(c: Config, l: Live, slot: SlotCase) -> Moved
+    ensures { λ r. ⌜ r ≡ slotEnded c l slot ⌝ }
+{
+    match slot {
+        SlotCase::Pulls => pull_fall(c, l),
+        SlotCase::Refuses => {
+            let mut n = l;
+            n.sspif = true;
+            Moved {
+                live: n,
+                phase: Phase::Quiet,
+            }
+        }
+        SlotCase::Declines => Moved {
+            live: l,
+            phase: Phase::Quiet,
+        },
     }
 }
 
@@ -182,7 +204,7 @@ fn on_fall(c: Config, l: Live, phase: Phase) -> Moved
             live: l,
             phase: phase,
         },
-        Phase::Slot(pulling) => slot_fall(c, l, pulling),
+        Phase::Slot(slot) => slot_fall(c, l, slot),
         Phase::HeldForSending => Moved {
             live: l,
             phase: phase,

@@ -153,7 +153,7 @@ module _ (c : Config) (enabled : c .sspen ≡ true) (l : Live) where
         leaves = taken-goes (λ (b : Bits). Data b false) p item (λ sda. refl) (λ e. ap (λ (x : Bool). dataFallIf x c l (p .0) false) e) (k .1);
       }
   bits-go (HeldBefore refused) t p item h = never t
-  bits-go (Slot pulling) t p item h = never t
+  bits-go (Slot slot) t p item h = never t
   bits-go HeldForSending t p item h = never t
   bits-go (Sending byte place) t p item h = never t
   bits-go MasterAcknowledge t p item h = never t
@@ -166,7 +166,7 @@ module _ (c : Config) (enabled : c .sspen ≡ true) (l : Live) where
   rises-by (Data bits true) t r sda = refl
   rises-by (Data bits false) t r sda = never (sym t)
   rises-by (HeldBefore refused) t r sda = refl
-  rises-by (Slot pulling) t r sda = ap (λ (x : Bool). setACKTIM x l at Slot pulling) (sym r)
+  rises-by (Slot slot) t r sda = ap (λ (x : Bool). setACKTIM x l at Slot slot) (sym r)
   rises-by HeldForSending t r sda = refl
   rises-by (Sending byte place) t r sda = refl
   rises-by MasterAcknowledge t r sda = never (sym r)
@@ -178,7 +178,7 @@ module _ (c : Config) (enabled : c .sspen ≡ true) (l : Live) where
   falls-by (Data bits true) t s f = ap (λ (x : Bool). dataFallIf x c l bits true) f
   falls-by (Data bits false) t s f = never (sym t)
   falls-by (HeldBefore refused) t s f = refl
-  falls-by (Slot pulling) t s f = never (sym f)
+  falls-by (Slot slot) t s f = never (sym f)
   falls-by HeldForSending t s f = refl
   falls-by (Sending byte place) t s f = never (sym s)
   falls-by MasterAcknowledge t s f = never (sym f)

@@ -1,24 +1,18 @@
 -- What the scope draws of a state: the registers read without effect, what the module pulls, its phase with its parts, the
 -- line, and the handler's variables.
-use mathlib.Core.Bool.{Bool, _&&_}
 use mir.Val.{boolByte}
 use Rattle.refusals.specs.declared.Refusal.the-variants.{NoState}
 use Rattle.refusals.specs.Numbers.{numberOf}
 use Rattle.mssp.specs.declared.Config.{Config}
 use Rattle.mssp.specs.declared.Live.{Live}
-use Rattle.mssp.specs.declared.Phase.{Phase}
 use Rattle.mssp.specs.declared.Module.{Module}
-use Rattle.mssp.specs.Phases.{phaseNumber, bitsOf, phaseMark, isHeldBefore}
+use Rattle.mssp.specs.Phases.{phaseNumber, bitsOf, isRefused}
 use Rattle.mssp.specs.Drivers.{sclPulled, sdaPulled}
 use Rattle.registers.specs.declared.Register.the-variants.{Buf, Stat, Con1, Con2, Con3, Add, Msk, Flag}
 use Rattle.registers.specs.Values.{valueOf}
 use Rattle.firmware.specs.declared.State.{State}
 use Rattle.phase_image.specs.PhasePart.{wireByte}
 use Rattle.view.specs.declared.View.{View}
-
--- Only a hold before acknowledge is refused or not.
-abbrev pub refusedOf : Phase → Bool
-refusedOf ph = isHeldBefore ph && phaseMark ph
 
 abbrev pub viewOf : State → View
 viewOf s =
@@ -40,7 +34,7 @@ viewOf s =
       phase = phaseNumber (m .phase);
       bits = bitsOf (m .phase) .count;
       byte = bitsOf (m .phase) .value;
-      refused = boolByte (refusedOf (m .phase));
+      refused = boolByte (isRefused (m .phase));
       wire = wireByte (m .line .remembered);
       mark = boolByte (m .line .mark);
       due = boolByte (s .handler .due);

@@ -1,6 +1,7 @@
 // What the scope draws of a state: numbers only, laid out for C.
 ghost use mathlib.Core.Path.{_≡_};
-ghost use Rattle.view.specs.View.{refusedOf, viewOf, noView};
+ghost use Rattle.mssp.specs.Phases.{isRefused};
+ghost use Rattle.view.specs.View.{viewOf, noView};
 use firmware::State;
 use mssp::Phase;
 
@@ -26,7 +27,7 @@ pub struct View {
     pub bits: u8,
     // address, data: those bits as a number; sending: the byte; else 0
     pub byte: u8,
-    // 1: held before acknowledge, and refused
+    // 1: held before acknowledge or in the slot, and refused
     pub refused: u8,
     // 0 to 3; 255: none remembered
     pub wire: u8,
@@ -36,11 +37,13 @@ pub struct View {
     pub pointer: u16,
 }
 
-// Only a hold before acknowledge is refused or not.
+// A hold before acknowledge or a slot whose byte was refused.
 fn is_refused(phase: Phase) -> bool
-    ensures { λ r. ⌜ r ≡ refusedOf phase ⌝ }
+    ensures { λ r. ⌜ r ≡ isRefused phase ⌝ }
 {
-    (mssp::phase_number(phase) == mssp::HELD_BEFORE) & mssp::phase_mark(phase)
+    let number = mssp::phase_number(phase);
+    let mark = mssp::phase_mark(phase);
+    ((number == mssp::HELD_BEFORE) & (mark == 1)) | ((number == mssp::SLOT) & (mark == mssp::REFUSES))
 }
 
 pub fn draw(s: State) -> View

@@ -7,9 +7,9 @@ pub release-phase-spec : {M : Type 1} → statement M
 release-phase-spec =
     tie.close
     (tie.spec
-    (λ c. search needs) (λ c. search needs) (λ c. search needs) (λ c. search needs) (λ c. search needs)
-    (λ c. search needs) (λ c. search needs) (λ c. search needs) (λ c. search needs) (λ c. search needs)
-    (λ c. simp (c .before .phase .given .1)) (λ c. simp (c .before .phase2 .given .1))
+    (λ c. search needs) (λ c. search needs) (λ c. search needs) (λ c. search needs) (λ c κs. search needs)
+    (λ c. search needs) (λ c. search needs) (λ c. search needs) (λ c. search needs) (λ c. search needs) (λ c. search needs)
+    (λ c. simp (c .before .phase .given .1)) (λ c. simp (c .before .before .phase2 .given .1, c .slot-after .ensures))
     (λ c. search needs)
     (λ c. simp (c .enum-told4 .given .1))
     (λ c. search needs) (λ c. search needs))

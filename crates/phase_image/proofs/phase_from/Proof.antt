@@ -1,4 +1,5 @@
 -- `phase_image::phase_from` meets its contract.
+use borrow.Author.Needs.{needs}
 use borrow.Author.Tests.{ne-eqb}
 use Rattle.phase_image.proofs.phase_from.Statement.{statement}
 use Rattle.phase_image.proofs.phase_from.Tie as tie
@@ -7,10 +8,11 @@ pub phase-from-spec : {M : Type 1} → statement M
 phase-from-spec =
     tie.close
     (tie.spec
+    (λ c κs. search needs)
     (λ c. simp (c .match .keys1))
     (λ c. simp (c .match .keys2))
     (λ c. simp (c .match .keys3))
-    (λ c. simp (c .match .keys4))
+    (λ c. simp (c .before .match .keys4, c .slot-from .ensures))
     (λ c. simp (c .match .keys5))
     (λ c. simp (c .match .keys6))
     (λ c. simp (c .match .keys7))

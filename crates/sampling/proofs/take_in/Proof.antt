@@ -7,5 +7,5 @@ pub take-in-spec : {M : Type 1} → statement M
 take-in-spec =
     tie.close
     (tie.spec
-    (λ c κs. search needs) (λ c κs. search needs)
-    (λ c. simp (c .before .before .before .before .before .pick-byte .ensures, c .pick-phase .ensures)))
+    (λ c κs. search needs) (λ c κs. search needs) (λ c κs. search needs)
+    (λ c. simp (c .before .before .before .before .before .before .pick-byte .ensures, c .before .slot-after .ensures, c .pick-phase .ensures)))
