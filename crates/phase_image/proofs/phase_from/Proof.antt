@@ -4,6 +4,14 @@ use borrow.Author.Tests.{ne-eqb}
 use Rattle.phase_image.proofs.phase_from.Statement.{statement}
 use Rattle.phase_image.proofs.phase_from.Tie as tie
 
+byte-and-place-sent : tie.Need-returns-6
+byte-and-place-sent c = simp (c .match .keys6)
+
+quiet-by-any-other : tie.Need-returns-8
+quiet-by-any-other c =
+    let r = c .match .rest in
+    simp (ne-eqb _ _ (r .1), ne-eqb _ _ (r .0 .1), ne-eqb _ _ (r .0 .0 .1), ne-eqb _ _ (r .0 .0 .0 .1), ne-eqb _ _ (r .0 .0 .0 .0 .1), ne-eqb _ _ (r .0 .0 .0 .0 .0 .1), ne-eqb _ _ (r .0 .0 .0 .0 .0 .0 .1))
+
 pub phase-from-spec : {M : Type 1} → statement M
 phase-from-spec =
     tie.close
@@ -14,8 +22,6 @@ phase-from-spec =
     (λ c. simp (c .match .keys3))
     (λ c. simp (c .before .match .keys4, c .slot-from .ensures))
     (λ c. simp (c .match .keys5))
-    (λ c. simp (c .match .keys6))
+    byte-and-place-sent
     (λ c. simp (c .match .keys7))
-    (λ c.
-    let r = c .match .rest in
-    simp (ne-eqb _ _ (r .1), ne-eqb _ _ (r .0 .1), ne-eqb _ _ (r .0 .0 .1), ne-eqb _ _ (r .0 .0 .0 .1), ne-eqb _ _ (r .0 .0 .0 .0 .1), ne-eqb _ _ (r .0 .0 .0 .0 .0 .1), ne-eqb _ _ (r .0 .0 .0 .0 .0 .0 .1))))
+    quiet-by-any-other)
