@@ -228,6 +228,10 @@ pub data Feeds (start n : ℕ) : List DoorCall → List ℕ → Type 0 where
       {c : DoorCall} {calls : List DoorCall} {items rest : List ℕ} → Asks start n c items → Feeds start n calls rest
       → Feeds start n (c ∷ calls) (items ++ rest)
 
+-- Look shows no refused hold or slot, and SSPOV, bit 6 of CON1, is 0.
+abbrev pub ShowsNoneRefused : Host → Type 0
+ShowsNoneRefused h = (doorLook (h .state) .refused ≡ 0) × (bit 6 (shownCON1 h) ≡ false)
+
 -- ---- a firmware: register accesses and nothing else
 -- What a register shows; what a read and a write of it leave.
 abbrev pub valueShown : Verdict → ℕ

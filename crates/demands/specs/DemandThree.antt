@@ -1,5 +1,5 @@
 -- Set up, and fed through the door: the registers after setup; a run is the calls one after the other, however its items are fed;
--- demand 3.
+-- demand 3, and that no byte is refused there.
 use Prim.Native.Nat.{ℕ, _+_, _≤_}
 use mathlib.Core.Path.{_≡_, refl, sym, ap, _∙_, subst}
 use mathlib.Core.Bool.{Bool, true, false, true≢false, cond, _||_}
@@ -15,8 +15,6 @@ use Rattle.items.specs.Theorems.{none-above, none-first}
 use Rattle.refusals.specs.declared.Refusal.the-variants.{NoWindow}
 use Rattle.wire.specs.Byte.{bit}
 use Rattle.wire.specs.Wire.{sclOf, sdaOf, onWire}
-use Rattle.mssp.specs.declared.Config.{Config}
-use Rattle.mssp.specs.declared.Live.{Live}
 use Rattle.mssp.specs.declared.Module.{Module}
 use Rattle.mssp.specs.Module.{setup}
 use Rattle.mssp.specs.Drivers.{sclPulled, sdaPulled}
@@ -35,7 +33,7 @@ use Rattle.steps.specs.Laws.{after-joined}
 use Rattle.trace.specs.Run.{firstBad, byteStepIf, byteStep, itemIf, itemAt, runFrom, runOf}
 use Rattle.trace.specs.Window.{SameOutside}
 use Rattle.trace.specs.Theorems.{run-length, window-length, splice-outside}
-use Rattle.agreement.specs.Joint.{Joint, run, afresh, SamplesAndCalls, ended, sample, call as call-more, Agrees}
+use Rattle.agreement.specs.Joint.{Joint, run, afresh, SamplesAndCalls, ended, sample, call as call-more, Agrees, NotRefused}
 use Rattle.agreement.specs.Record.{joint-run-is-the-run}
 use Rattle.agreement.specs.Demand.{demand-three, no-intake-refused}
 use Rattle.image.specs.Image.{imageLength, validState, encodeOf, decodeOf}
@@ -46,7 +44,7 @@ use Rattle.settling.specs.Outcome.{Outcome, outcome, byState, done}
 use Rattle.settling.specs.Left.{ImageOfSome}
 use Rattle.firmware_calls.specs.Calls.{setupIf, doorSetup}
 use Rattle.doorkept.specs.Image.{setup-leaves}
-use Rattle.demands.specs.Calls.{DoorCall, setUp, readRegister, runTrace, Host, host, Reply, reply, answers, leftAfter, atDoor, hasWindow, inWindow, byDefinition, AllItems, Asks, a-run, a-sample, a-call, Feeds, nothing, one-more}
+use Rattle.demands.specs.Calls.{DoorCall, setUp, readRegister, runTrace, Host, host, Reply, reply, answers, leftAfter, atDoor, hasWindow, inWindow, byDefinition, ImageOf, AllItems, ShowsNoneRefused, Asks, a-run, a-sample, a-call, Feeds, nothing, one-more}
 use Rattle.demands.specs.Demands.{SetupRegisters, RunIsCalls, DemandThree, NoneRefused}
 use Rattle.demands.specs.DemandTwo.{image-is, on-state, look-is, follows, imageHost, by-image, SameAsDefined}
 
@@ -298,13 +296,20 @@ demand-three-at-door add start n h calls items long low high inside feeds good =
         splice-outside start n (joint .bytes) (h .buffer) inside
         (ap (λ (w : Served). length (w .bytes)) (sym ran) ∙ run-length (madeFor add n) window items ∙ sized)
 
-pub none-refused : NoneRefused
-none-refused add bytes items h good image =
-    let joint : Joint = run (length bytes) add (afresh add bytes) (map itemAt items) in
-    let c : Config = joint .state .mssp .config in let l : Live = joint .state .mssp .live in
-    let look = look-is (joint .state) h image in
-    let none = no-intake-refused add bytes (map itemAt items) (samples-and-calls items good) in (
+-- ---- no byte is refused
+refusal-not-shown : (j : Joint) (h : Host) → ImageOf (j .state) (h .state) → NotRefused j → ShowsNoneRefused h
+refusal-not-shown j h image none =
+    let c = j .state .mssp .config in let l = j .state .mssp .live in
+    let look = look-is (j .state) h image in (
       ap (λ (v : View). v .refused) look ∙ ap boolByte (none .0),
       ap (λ (v : View). bit 6 (v .con1)) look
           ∙ bits-back (c .wcol) (l .sspov) (c .sspen) (l .ckp) (c .sspm3) (c .sspm2) (c .sspm1) (c .sspm0) .is6 ∙ none .1,
     )
+
+pub none-refused : NoneRefused
+none-refused add start n h calls items long low high fits feeds good =
+    let joint : ℕ → Joint = λ k. run k add (afresh add (windowOf start n (h .buffer))) (map itemAt items) in
+    let none = no-intake-refused add (windowOf start n (h .buffer)) (map itemAt items) (samples-and-calls items good) in
+    refusal-not-shown (joint n) (leftAfter atDoor h (setUp add n ∷ calls))
+    (demand-three-at-door add start n h calls items long low high fits feeds good .1)
+    (subst (λ (k : ℕ). NotRefused (joint k)) (window-length start n (h .buffer) fits) none)

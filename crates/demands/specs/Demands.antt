@@ -2,11 +2,9 @@
 -- alone: their words are in Calls.antt, their proofs in the other files.
 use Prim.Native.Nat.{ℕ, _+_, _%_, _<_, _≤_}
 use mathlib.Core.Path.{_≡_}
-use mathlib.Core.Bool.{false}
 use mathlib.Core.List.{List, [], _∷_, map}
 use lib.ListN.{length}
 use Rattle.items.specs.First.{FirstAbove}
-use Rattle.wire.specs.Byte.{bit}
 use Rattle.memory.specs.Memory.{peeked}
 use Rattle.firmware.specs.declared.State.{State}
 use Rattle.firmware.specs.Handler.{longestWindow, Served, served, stateOf, memoryIn, called}
@@ -21,7 +19,7 @@ use Rattle.settling.specs.Outcome.{done}
 use Rattle.module_calls.specs.Calls.{doorLook}
 use Rattle.door.specs.declared.Part.{Part}
 use Rattle.door.specs.Door.{doorFind}
-use Rattle.demands.specs.Calls.{DoorCall, setUp, readRegister, callHandler, runTrace, Host, answers, leftAfter, Allows, atDoor, byDefinition, ImageOf, shownCON1, causes, lookCauses, findCauses, Exactly, OnlyBeside, Beside, StaysEnabled, AllItems, Feeds, firmware}
+use Rattle.demands.specs.Calls.{DoorCall, setUp, readRegister, callHandler, runTrace, Host, answers, leftAfter, Allows, atDoor, byDefinition, ImageOf, shownCON1, causes, lookCauses, findCauses, Exactly, OnlyBeside, Beside, StaysEnabled, AllItems, Feeds, ShowsNoneRefused, firmware}
 
 -- ---- DEMAND 1: every call has one outcome, changes only what it may, and refuses by number, exactly for the causes of the table
 -- Only one answer fits a call's contract, with one state and one buffer. (What look and find answer is an equation as it stands.)
@@ -91,13 +89,13 @@ DemandThree =
     × Agrees add joint
     × SameOutside start n (h .buffer) (after .buffer)
 
--- ---- why demand 3 knows no refused byte: with the handler alone no intake is ever refused. Of every state that it speaks of, the
--- bytes being that state's image, look shows `refused` 0 and SSPOV, bit 6 of CON1, 0.
+-- ---- why demand 3 knows no refused byte: set up and fed through the door as there, with no register access but the handler's, no
+-- intake is ever refused. It holds of every list of items, so after each item of a list.
 abbrev pub NoneRefused : Type 0
 NoneRefused =
-    (add : ℕ) (bytes items : List ℕ) (h : Host) → AllItems items
-    → ImageOf (run (length bytes) add (afresh add bytes) (map itemAt items) .state) (h .state)
-    → (doorLook (h .state) .refused ≡ 0) × (bit 6 (shownCON1 h) ≡ false)
+    (add start n : ℕ) (h : Host) (calls : List DoorCall) (items : List ℕ) → length (h .state) ≡ imageLength → 1 ≤ n → n ≤ longestWindow
+    → start + n ≤ length (h .buffer) → Feeds start n calls items → AllItems items
+    → ShowsNoneRefused (leftAfter atDoor h (setUp add n ∷ calls))
 
 -- ---- a run is the calls one after the other: however its items are fed, in runs, samples and handler calls, where the run is
 -- accepted each of these is, and they leave the same bytes and buffer

@@ -152,7 +152,11 @@ pub fn slot_after(refused: bool, declined: bool) -> SlotCase
     if refused {
         return SlotCase::Refuses;
     }
-    if declined { SlotCase::Declines } else { SlotCase::Pulls }
+    if declined {
+        SlotCase::Declines
+    } else {
+        SlotCase::Pulls
+    }
 }
 
 // The number of a phase.

@@ -43,7 +43,8 @@ fn is_refused(phase: Phase) -> bool
 {
     let number = mssp::phase_number(phase);
     let mark = mssp::phase_mark(phase);
-    ((number == mssp::HELD_BEFORE) & (mark == 1)) | ((number == mssp::SLOT) & (mark == mssp::REFUSES))
+    ((number == mssp::HELD_BEFORE) & (mark == 1))
+        | ((number == mssp::SLOT) & (mark == mssp::REFUSES))
 }
 
 pub fn draw(s: State) -> View

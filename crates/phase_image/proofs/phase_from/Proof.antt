@@ -17,9 +17,7 @@ phase-from-spec =
     tie.close
     (tie.spec
     (λ c κs. search needs)
-    (λ c. simp (c .match .keys1))
-    (λ c. simp (c .match .keys2))
-    (λ c. simp (c .match .keys3))
+    (λ c. simp (c .match .keys1)) (λ c. simp (c .match .keys2)) (λ c. simp (c .match .keys3))
     (λ c. simp (c .before .match .keys4, c .slot-from .ensures))
     (λ c. simp (c .match .keys5))
     byte-and-place-sent
