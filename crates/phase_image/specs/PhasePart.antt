@@ -16,7 +16,7 @@ use Rattle.mssp.specs.declared.Phase.the-variants.{Quiet, Address, Data, HeldBe
 abbrev pub bitsFrom : ℕ → ℕ → Bits
 bitsFrom count byte = record { count = count; value = byte }
 
--- The case of a slot with that number; declining where no other has it.
+-- The case of a slot with that number. A number that no case has gives one with another, so that its image is refused.
 abbrev pub slotFrom : ℕ → SlotCase
 slotFrom number = cond (eqb number 1) Pulls (cond (eqb number 2) Refuses Declines)
 

@@ -6,7 +6,7 @@ use mssp::SlotCase;
 use wire::Bits;
 use wire::Remembered;
 
-// The case of a slot that has the number; a number that no case has gives one with another number.
+// The case of a slot that has the number. A number that no case has gives one with another, so that its image is refused.
 fn slot_from(number: u8) -> SlotCase
     ensures { λ r. ⌜ r ≡ slotFrom number ⌝ }
 {
