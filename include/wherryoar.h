@@ -11,9 +11,9 @@
      than the memory behind its pointer; a pointer may be null only where its length is 0.
    - The library keeps no state of its own, allocates nothing and calls nothing: calls on different states may run on
      different threads at once; two calls on one state or one buffer may not.
-   - An image is good for this version of the library. One of an older version means the same or is refused with 6, and is
-     never misread: from 0.3.0 only an acknowledge slot that does not pull is refused, since it did not say whether the byte
-     was refused. The layout is in docs/LAYOUT.md.
+   - An image is good for this version of the library. One that an older version made means the same or is refused with 6,
+     and is never misread. Of the images of 0.3.0 those of an acknowledge slot that does not pull are refused: they do not
+     say whether the byte was. The layout is in docs/LAYOUT.md.
    - Compiled for x86-64.                                                                                             */
 #ifndef WHERRYOAR_H
 #define WHERRYOAR_H

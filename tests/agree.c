@@ -87,6 +87,8 @@ static void check(bench *b, door_answer a)
         differ(b, "SDA pulled where not owed, or owed and not pulled");
     if (held != !(b->view.con1 & 0x10))
         differ(b, "CKP");
+    if (b->view.refused || (b->view.con1 & 0x40))
+        differ(b, "a byte refused, or SSPOV set, with the handler alone");
 }
 
 /* ---- Items ---- */

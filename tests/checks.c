@@ -1,5 +1,7 @@
-/* Checks through the door the bench examples, the refusals and their order, the state images and the finder. */
+/* Checks through the door the bench examples, rules and readings sentence by sentence, the refusals and their order, the
+   state images and the finder. */
 #include "door.h"
+#include "slots.h"
 #include "write_refusal.h"
 
 #include <stdio.h>
@@ -8,6 +10,9 @@
 enum { BUF, STAT, CON1, CON2, CON3, ADD, MSK, FLAG };
 
 enum { BF = 0x01, RW = 0x04, S = 0x08, P = 0x10, DA = 0x20, SSPOV = 0x40, WCOL = 0x80 };
+
+/* Bits of CON1, CON2 and CON3. */
+enum { CKP = 0x10, GCEN = 0x80, ACKDT = 0x20, SEN = 0x01, ACKTIM = 0x80, AHEN = 0x02, DHEN = 0x01 };
 
 enum { MEMORY = 256, GUARD = 8, BUFFER = MEMORY + 2 * GUARD, LONGEST = 4096 };
 
@@ -98,6 +103,12 @@ static void put(uint8_t number, uint8_t value)
     expect(is_refusal(door.write(image, DOOR_IMAGE, number, value), 0, 0), "write");
 }
 
+/* A read of BUF, which must give this. */
+static void take_buf(unsigned value)
+{
+    expect(door.read(image, DOOR_IMAGE, BUF).value == value && !(reg(STAT) & BF), "read of BUF");
+}
+
 /* The state as it is seen now. */
 static door_view now(void)
 {
@@ -144,7 +155,7 @@ static void bench_addresses(void)
     expect(!acknowledged(CON2, 0x81, 0x01), "P7 01");
 }
 
-/* P8 and P9: overflow. */
+/* P8 and P9: overflow, with SSPIF at the ninth fall. */
 static void bench_overflow(void)
 {
     fresh(0x30, 32);
@@ -152,13 +163,20 @@ static void bench_overflow(void)
     items("320");
     bits(0x30);
     items("131");
+    put(FLAG, 0x00);
     bits(0x55);
     expect((reg(CON1) & SSPOV) && reg(BUF) == 0x30 && !now().sda_pulled, "P8");
-    items("131 023");
-    expect(door.read(image, DOOR_IMAGE, BUF).value == 0x30, "read of BUF");
+    items("131");
+    expect(reg(FLAG) == 1, "P8: SSPIF");
+    put(FLAG, 0x00);
+    items("023");
+    take_buf(0x30);
+    put(MSK, 0xF0);
     items("320");
-    bits(0x30);
-    expect((reg(CON1) & SSPOV) && (reg(STAT) & BF) && !now().sda_pulled, "P9");
+    bits(0x32);
+    expect((reg(CON1) & SSPOV) && reg(BUF) == 0x32 && (reg(STAT) & BF) && !now().sda_pulled, "P9");
+    items("131");
+    expect(reg(FLAG) == 1, "P9: SSPIF");
 }
 
 /* P10 and P11: pointer and wrap in writing. */
@@ -266,27 +284,6 @@ static void rule_disabling_later(void)
     expect(reg(CON1) == 0x36, "SSPOV can be cleared by a write");
 }
 
-/* A refused byte is held all the same, and not acknowledged after the release whatever ACKDT says. */
-static void rule_refused_hold(void)
-{
-    fresh(0x30, 32);
-    put(CON2, 0x00);
-    put(CON3, 0x01);
-    items("320");
-    bits(0x30);
-    items("131");
-    put(FLAG, 0x00);
-    bits(0x44);
-    expect(now().phase == DOOR_HELD_BEFORE && now().refused == 1 && reg(FLAG) == 1, "refused and held");
-    put(CON1, (uint8_t)(reg(CON1) | 0x10));
-    expect(now().phase == DOOR_SLOT && now().sda_pulled == 0 && (reg(CON3) & 0x80), "refused: no pull after release");
-    put(FLAG, 0x00);
-    items("13");
-    expect(!(reg(CON3) & 0x80), "the ninth rise ends ACKTIM");
-    items("1");
-    expect(now().phase == DOOR_QUIET && reg(FLAG) == 0, "a slot without pull: quiet and no SSPIF");
-}
-
 /* No change of mode under way: refused as a whole, also in a hold with WCOL and SSPOV 1, until the module is disabled. */
 static void rule_mode(void)
 {
@@ -321,15 +318,16 @@ static void rule_mode(void)
 
 /* ---- Readings for states that no trace from setup reaches ---- */
 
-/* A state put together: STAT, CON1, CON3, phase with its three parts, wire; n is 1. */
-static void made(unsigned stat, unsigned con1, unsigned con3, int phase, unsigned yes, unsigned wire)
+/* A state put together: STAT, CON1, CON3, phase with what only it has of parts (held, refused or the slot's case), wire; n is
+   1. */
+static void made(unsigned stat, unsigned con1, unsigned con3, int phase, unsigned part, unsigned wire)
 {
     fresh(0x30, 1);
     image[STAT] = (uint8_t)stat;
     image[CON1] = (uint8_t)con1;
     image[CON3] = (uint8_t)con3;
     image[8] = (uint8_t)phase;
-    image[11] = (uint8_t)yes;
+    image[11] = (uint8_t)part;
     image[12] = (uint8_t)wire;
     expect(now().refusal == 0, "a state put together");
 }
@@ -349,7 +347,7 @@ static void readings(void)
     made(S | DA | RW | BF, 0x36, 0x00, DOOR_MASTER_ACK, 0, 3);
     items("2");
     expect((reg(STAT) & BF) != 0, "reading: a Start in the master's acknowledge leaves BF");
-    made(S | RW | BF, 0x36, 0x82, DOOR_SLOT, 0, 3);
+    made(S | RW | BF, 0x36, 0x82, DOOR_SLOT, SLOT_DECLINED, 3);
     items("2");
     expect(reg(STAT) == (S | BF) && reg(CON3) == 0x02, "a Start ends ACKTIM");
     made(S, 0x26, 0x00, DOOR_DATA, 1, 3);
@@ -365,6 +363,292 @@ static void readings(void)
     image[FLAG] = 1;
     items("h");
     expect((reg(STAT) & BF) && reg(CON1) == 0xB6, "reading: the handler's load outside the hold sets WCOL, BF stays");
+}
+
+/* ---- An interrupt after an overflow ---- */
+
+/* Whether the state is in a slot of this case, as its view shows it and as its image holds it. */
+static int in_slot(unsigned wanted)
+{
+    door_view v = now();
+
+    return v.phase == DOOR_SLOT && slot_case(v.sda_pulled, v.refused) == wanted && image[PART_AT] == wanted;
+}
+
+/* A hold before acknowledge ends, with the other bits of CON1 as they are. */
+static void release(void)
+{
+    put(CON1, (uint8_t)(reg(CON1) | CKP));
+}
+
+/* The ninth clock after a slot of this case, with SSPIF 0 up to its fall: what the fall brings. */
+static void ninth_clock(unsigned wanted, const char *what)
+{
+    unsigned stat = reg(STAT), con1 = reg(CON1), con2 = reg(CON2);
+    int sends = (stat & (RW | DA)) == RW, holds = sends || (con2 & SEN);
+
+    put(FLAG, 0x00);
+    expect(in_slot(wanted), what);
+    items("13");
+    expect(in_slot(wanted) && reg(FLAG) == 0 && !(reg(CON3) & ACKTIM), what);
+    items("1");
+    expect(reg(FLAG) == (wanted != SLOT_DECLINED), what);
+    expect(reg(STAT) == stat && reg(CON2) == con2 && !now().sda_pulled && now().refused == 0, what);
+    if (wanted != SLOT_PULLING) {
+        expect(now().phase == DOOR_QUIET && reg(CON1) == con1 && !now().scl_pulled, what);
+        return;
+    }
+    expect(now().phase == (sends ? DOOR_HELD_SENDING : DOOR_DATA) && now().scl_pulled == holds, what);
+    expect(reg(CON1) == (holds ? con1 & ~(unsigned)CKP : con1), what);
+}
+
+/* One byte from its first bit to its ninth fall: an address or a data byte, with what stands in the registers before it. */
+static void whole_byte(int phase, unsigned value, unsigned stat, unsigned con1, unsigned con2, unsigned con3)
+{
+    int refused = (stat & BF) || (con1 & SSPOV);
+    int held = (con3 & (phase == DOOR_DATA ? DHEN : AHEN)) != 0;
+    unsigned direction = phase == DOOR_DATA ? (stat & RW) | DA : value & 1 ? RW : 0;
+    unsigned after = refused ? SLOT_REFUSED : held && (con2 & ACKDT) ? SLOT_DECLINED : SLOT_PULLING;
+
+    made(stat, con1, con3, phase, 0, 0);
+    image[BUF] = 0x99;
+    image[CON2] = (uint8_t)con2;
+    bits(value);
+    expect(reg(BUF) == (stat & BF ? 0x99 : value) && reg(STAT) == (S | BF | direction), "intake: BUF, BF, D/A and R/W");
+    expect((reg(CON1) & SSPOV) == (refused ? SSPOV : 0), "intake: SSPOV");
+    expect(reg(CON3) == (con3 & (AHEN | DHEN) ? con3 | ACKTIM : con3), "intake: ACKTIM");
+    expect(reg(FLAG) == (unsigned)held && now().phase == (held ? DOOR_HELD_BEFORE : DOOR_SLOT), "intake: SSPIF with a hold");
+    if (held) {
+        expect(now().refused == refused && image[PART_AT] == refused && now().scl_pulled, "a hold, refused or not");
+        put(FLAG, 0x00);
+        release();
+        expect(reg(FLAG) == 0, "no SSPIF at the release");
+    }
+    expect(((reg(CON1) & CKP) != 0) == (held || (con1 & CKP)), "CKP in the slot");
+    ninth_clock(after, "a whole byte");
+}
+
+/* Addresses of both directions, the general call and data, with BF, SSPOV, ACKDT, SEN, CKP, AHEN and DHEN each 0 and 1. D/A
+   and R/W of an address are its own, whatever stood there. */
+static void whole_bytes(void)
+{
+    static const unsigned addresses[3] = {0x30, 0x31, 0x00};
+    unsigned pick;
+
+    for (pick = 0; pick < 128; pick++) {
+        unsigned stat = S | (pick & 1 ? BF : 0), con1 = 0x26 | (pick & 2 ? SSPOV : 0) | (pick & 4 ? CKP : 0);
+        unsigned con2 = GCEN | (pick & 8 ? ACKDT : 0) | (pick & 16 ? SEN : 0), con3 = pick >> 5;
+        int i;
+
+        for (i = 0; i < 3; i++) {
+            whole_byte(DOOR_ADDRESS, addresses[i], stat, con1, con2, con3);
+            whole_byte(DOOR_ADDRESS, addresses[i], stat | DA | RW, con1, con2, con3);
+        }
+        whole_byte(DOOR_DATA, 0x44, stat, con1, con2, con3);
+        whole_byte(DOOR_DATA, 0x45, stat | DA, con1, con2, con3);
+    }
+}
+
+/* A message whose address was taken and not read, so that the next byte is refused; SEN is 0 and SSPIF cleared. */
+static void unread(unsigned con2, unsigned con3)
+{
+    fresh(0x30, 32);
+    put(CON2, 0x00);
+    items("320");
+    bits(0x30);
+    items("131");
+    put(FLAG, 0x00);
+    put(CON2, (uint8_t)con2);
+    put(CON3, (uint8_t)con3);
+}
+
+/* A data byte refused in a hold, with SSPIF for the first time. */
+static void refused_hold(unsigned con2)
+{
+    unread(con2, DHEN);
+    bits(0x44);
+    expect(now().phase == DOOR_HELD_BEFORE && now().refused == 1 && reg(FLAG) == 1, "refused and held");
+    put(FLAG, 0x00);
+}
+
+/* A data byte taken in a hold and not read. */
+static void taken_hold(unsigned con2)
+{
+    unread(con2, DHEN);
+    take_buf(0x30);
+    bits(0x44);
+    expect(now().phase == DOOR_HELD_BEFORE && now().refused == 0 && reg(FLAG) == 1, "taken and held");
+    expect((reg(STAT) & BF) && reg(BUF) == 0x44, "taken and not read");
+}
+
+/* Data and address alike, with R/W 1 too: SSPIF at the ninth fall, then quiet up to the next Start. */
+static void rule_refused(void)
+{
+    unread(0x00, 0x00);
+    bits(0x44);
+    expect(reg(FLAG) == 0, "no SSPIF at the eighth fall");
+    ninth_clock(SLOT_REFUSED, "a refused data byte");
+    put(FLAG, 0x00);
+    bits(0x55);
+    items("131");
+    expect(now().phase == DOOR_QUIET && reg(FLAG) == 0 && reg(BUF) == 0x30, "nothing is taken after a refused byte");
+    items("1320");
+    bits(0x30);
+    ninth_clock(SLOT_REFUSED, "a refused address");
+    items("1320");
+    put(FLAG, 0x00);
+    bits(0x31);
+    expect(reg(STAT) == (S | RW | BF) && reg(FLAG) == 0, "a refused address has its R/W");
+    ninth_clock(SLOT_REFUSED, "a refused address with R/W 1");
+    put(FLAG, 0x00);
+    items("131 131");
+    expect(reg(STAT) == (S | RW | BF) && reg(CON1) == (SSPOV | 0x36) && reg(FLAG) == 0, "nothing is sent after it");
+    items("1320");
+    bits(0x40);
+    expect(now().phase == DOOR_QUIET, "another address");
+    items("131");
+    expect(reg(FLAG) == 0, "no SSPIF for an address that does not match, BF and SSPOV standing");
+}
+
+/* ACKDT: with a refused hold it changes nothing, alone it declines and there is no SSPIF, without a hold it has no effect. */
+static void rule_ackdt(void)
+{
+    refused_hold(ACKDT);
+    release();
+    ninth_clock(SLOT_REFUSED, "refused with ACKDT 1: SSPIF a second time");
+    unread(ACKDT, 0x00);
+    bits(0x44);
+    ninth_clock(SLOT_REFUSED, "refused with ACKDT 1 and no hold");
+    taken_hold(ACKDT);
+    release();
+    ninth_clock(SLOT_DECLINED, "declined by ACKDT alone");
+    unread(ACKDT, AHEN);
+    take_buf(0x30);
+    bits(0x44);
+    ninth_clock(SLOT_PULLING, "ACKDT without a hold of this byte's own");
+}
+
+/* The refusal is decided at the eighth fall: nothing done in the hold or in the slot lifts it. */
+static void rule_decided(void)
+{
+    refused_hold(0x00);
+    take_buf(0x30);
+    expect(now().phase == DOOR_HELD_BEFORE && now().refused == 1, "BUF read in the hold");
+    release();
+    ninth_clock(SLOT_REFUSED, "refused, BUF read in the hold");
+    refused_hold(0x00);
+    put(CON1, 0x26);
+    expect(reg(CON1) == 0x26 && now().refused, "SSPOV cleared in the hold");
+    release();
+    ninth_clock(SLOT_REFUSED, "refused, SSPOV cleared in the hold");
+    refused_hold(0x00);
+    take_buf(0x30);
+    put(CON1, 0x36);
+    expect(!(reg(STAT) & BF) && reg(CON1) == 0x36, "BUF read, SSPOV cleared with the release");
+    ninth_clock(SLOT_REFUSED, "refused, BUF read and SSPOV cleared");
+    refused_hold(ACKDT);
+    put(CON2, 0x00);
+    release();
+    ninth_clock(SLOT_REFUSED, "refused, ACKDT 1 and 0 again in the hold");
+    unread(0x00, 0x00);
+    bits(0x44);
+    take_buf(0x30);
+    put(CON1, 0x36);
+    put(CON2, ACKDT);
+    ninth_clock(SLOT_REFUSED, "refused, all of it in the slot");
+}
+
+/* ACKDT is decided at the release, and changes nothing in the slot. A byte that was taken is not refused for standing in
+   BUF. */
+static void rule_decided_by_ackdt(void)
+{
+    taken_hold(ACKDT);
+    release();
+    put(CON2, 0x00);
+    ninth_clock(SLOT_DECLINED, "declined, ACKDT 0 in the slot");
+    taken_hold(0x00);
+    release();
+    put(CON2, ACKDT);
+    ninth_clock(SLOT_PULLING, "acknowledged, ACKDT 1 in the slot");
+    taken_hold(ACKDT);
+    put(CON2, 0x00);
+    release();
+    ninth_clock(SLOT_PULLING, "acknowledged, ACKDT 0 by the release");
+    taken_hold(0x00);
+    put(CON2, ACKDT);
+    release();
+    ninth_clock(SLOT_DECLINED, "declined, ACKDT 1 by the release");
+}
+
+/* Whether SSPIF stays 0 over these items. */
+static int silent(const char *text)
+{
+    items(text);
+    return reg(FLAG) == 0;
+}
+
+/* A Start, a Stop or disabling before the ninth fall: no SSPIF for the refused byte, then or later. */
+static void rule_cut(void)
+{
+    unread(0x00, 0x00);
+    bits(0x44);
+    expect(silent("132") && now().phase == DOOR_ADDRESS && now().refused == 0, "a Start in a refused slot");
+    expect(silent("0"), "the fall after that Start");
+    unread(0x00, 0x00);
+    bits(0x44);
+    expect(silent("023") && now().phase == DOOR_QUIET && now().refused == 0, "a Stop in a refused slot");
+    expect(silent("1 31"), "clocks after that Stop");
+    unread(0x00, 0x00);
+    bits(0x44);
+    put(CON1, 0x16);
+    expect(silent("131") && now().phase == DOOR_QUIET && now().refused == 0, "disabled in a refused slot");
+    unread(0x00, 0x00);
+    bits(0x44);
+    items("13");
+    put(CON1, 0x16);
+    put(CON1, 0x36);
+    expect(silent("1 31"), "disabled and enabled again after the ninth rise");
+    refused_hold(0x00);
+    put(CON1, 0x06);
+    expect(silent("131") && now().phase == DOOR_QUIET && now().refused == 0, "disabled in a refused hold");
+}
+
+/* SSPIF that stands stays over a declined byte; the handler clears one that came with a refused byte, and does no more. */
+static void rule_flag(void)
+{
+    uint8_t old[DOOR_IMAGE];
+
+    taken_hold(ACKDT);
+    release();
+    items("131");
+    expect(now().phase == DOOR_QUIET && reg(FLAG) == 1, "SSPIF of the hold stays over a declined byte");
+    unread(0x00, 0x00);
+    bits(0x44);
+    items("131");
+    memcpy(old, image, DOOR_IMAGE);
+    old[FLAG] = 0;
+    items("h");
+    expect(memcmp(old, image, DOOR_IMAGE) == 0 && buffer[GUARD] == 0, "a handler call after a refused byte");
+}
+
+/* The slot's case decides, not what the registers say by then, nor whether the ninth rise was seen. */
+static void rule_case(void)
+{
+    made(S | DA, 0x36, 0x82, DOOR_SLOT, SLOT_REFUSED, 3);
+    items("1");
+    expect(now().phase == DOOR_QUIET && reg(FLAG) == 1 && reg(CON3) == 0x82, "refused, BF and SSPOV 0, no rise seen");
+    made(S | DA | BF, 0x76, 0x00, DOOR_SLOT, SLOT_DECLINED, 3);
+    items("1");
+    expect(now().phase == DOOR_QUIET && reg(FLAG) == 0, "declined, BF and SSPOV 1, ACKDT 0");
+    made(S | RW, 0x36, 0x00, DOOR_SLOT, SLOT_DECLINED, 3);
+    items("1");
+    expect(now().phase == DOOR_QUIET && reg(FLAG) == 0 && reg(STAT) == (S | RW), "declined with R/W 1");
+    made(S | BF, 0x76, 0x00, DOOR_SLOT, SLOT_PULLING, 2);
+    items("0");
+    expect(now().phase == DOOR_DATA && reg(FLAG) == 1, "pulling, BF and SSPOV 1");
+    made(S, 0x76, 0x00, DOOR_SLOT, SLOT_REFUSED, 255);
+    items("1");
+    expect(in_slot(SLOT_REFUSED) && reg(FLAG) == 0, "the first sample is only remembered, in a refused slot too");
 }
 
 /* ---- Refusals ---- */
@@ -459,7 +743,7 @@ static int phase_is_a_states(const uint8_t *i)
     case DOOR_HELD_BEFORE:
         return clear && i[11] <= 1 && !ckp;
     case DOOR_SLOT:
-        return clear && i[11] <= 1;
+        return clear && i[11] >= 1 && i[11] <= 3;
     case DOOR_HELD_SENDING:
         return none && !ckp;
     case DOOR_SENDING:
@@ -517,7 +801,7 @@ static void near_image(uint8_t *i)
     i[8] = (uint8_t)below(below(16) ? 8 : 256);
     i[9] = (uint8_t)(below(2) ? below(10) : 0);
     i[10] = (uint8_t)(below(2) ? below(1u << (i[9] < 8 ? i[9] : 8)) : below(256) >> shift);
-    i[11] = (uint8_t)(below(2) ? below(3) : 0);
+    i[11] = (uint8_t)(below(2) ? below(5) : i[8] == DOOR_SLOT);
     i[12] = (uint8_t)(below(4) ? below(5) : 255);
     i[13] = (uint8_t)(below(4) ? 0 : below(3));
     i[16] = (uint8_t)n;
@@ -577,6 +861,7 @@ static void images(unsigned long rounds)
 
             states++;
             expect(now().refusal == 0, "look on a state");
+            expect(image[8] != DOOR_SLOT || in_slot(image[PART_AT]), "look on a slot");
             for (i = 0; i < 6; i++)
                 modes += any_call(n) == 8;
             continue;
@@ -672,9 +957,16 @@ int main(void)
     bench_reading();
     rule_disabling();
     rule_disabling_later();
-    rule_refused_hold();
     rule_mode();
     readings();
+    whole_bytes();
+    rule_refused();
+    rule_ackdt();
+    rule_decided();
+    rule_decided_by_ackdt();
+    rule_cut();
+    rule_flag();
+    rule_case();
     refusals_single();
     refusals_run();
     images(1000000);

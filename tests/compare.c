@@ -1,4 +1,5 @@
 /* Drives the archive and the second program side by side with generated traffic and stops at the first difference. */
+#include "moments.h"
 #include "round.h"
 #include "traffic.h"
 
@@ -11,7 +12,7 @@ enum { BUF, STAT, CON1, CON2, CON3, ADD, MSK, FLAG, REGISTERS };
 enum { QUIET, ADDRESS, DATA, HELD_BEFORE, SLOT, HELD_SENDING, SENDING, MASTER_ACK, PHASES };
 
 /* The shortest trace to a spoiled place has 24 steps; one that is not much longer is short. A long run has to reach every
-   refusal and every phase. */
+   refusal, every phase, every case of a slot and every moment around a refused byte. */
 enum { REFUSALS = 9, MODE_UNDER_WAY = 8, NO_WIRE = 255, NO_ITEM = 255, SHORT_TRACE = 30, LONG_RUN = 100000 };
 
 /* All that the comparison keeps; the counts tell what was reached, so that a pass says something. */
@@ -25,6 +26,7 @@ typedef struct {
     int difference;
     unsigned long steps, wanted, kinds[PAIR_KINDS], refused[REFUSALS], phases[PHASES];
     unsigned long with_1110;      /* steps after which the module runs with SSPM 1110 */
+    unsigned long slots[SLOT_CASES], moments[MOMENTS];
 } bench;
 
 /* ---- Steps ---- */
@@ -47,29 +49,36 @@ static pair_step step_of(bench *b, int kind)
     return s;
 }
 
-/* Counts what a step has reached. */
-static void count(bench *b, const pair_step *s)
+/* Counts what a step from a state has reached. */
+static void count(bench *b, const pair_step *s, const uint8_t *before)
 {
     uint64_t refusal = b->both.second.outcome.refusal;
+    const second_view *v = &b->both.second.view;
 
     b->steps++;
     b->kinds[s->kind]++;
     if (refusal < REFUSALS)
         b->refused[refusal]++;
-    b->phases[b->both.second.view.phase & 7]++;
-    b->with_1110 += (b->both.second.view.con1 & 0x2F) == 0x2E;
+    b->phases[v->phase & 7]++;
+    b->with_1110 += (v->con1 & 0x2F) == 0x2E;
+    if (v->phase == SLOT)
+        b->slots[slot_case(v->sda_pulled, v->refused)]++;
+    if (refusal == 0 && s->kind < PAIR_RUN) /* a sample, a handler call, a read or a write */
+        moments_count(b->moments, before, b->both.second.room + PAIR_GUARD);
 }
 
 /* Makes a step on both and keeps it. */
 static void make(bench *b, const pair_step *s)
 {
     round_of_steps *r = &b->round;
+    uint8_t before[PAIR_IMAGE];
 
     if (b->difference || r->count == ROUND_STEPS)
         return;
     r->steps[r->count++] = *s;
+    memcpy(before, b->both.second.room + PAIR_GUARD, PAIR_IMAGE);
     b->difference = pair_make(&b->both, s);
-    count(b, s);
+    count(b, s, before);
     if (s->kind == PAIR_SAMPLE) {
         if (b->recorded == PAIR_BYTES)
             memmove(b->record, b->record + 1, --b->recorded);
@@ -108,12 +117,12 @@ static unsigned some_value(bench *b, int number)
     }
 }
 
-/* A write to CON1. */
-static void write_con1(bench *b, unsigned value)
+/* A write of this value to this register. */
+static void write_value(bench *b, int number, unsigned value)
 {
     pair_step s = step_of(b, PAIR_WRITE);
 
-    s.number = CON1;
+    s.number = (uint8_t)number;
     s.value = (uint8_t)value;
     make(b, &s);
 }
@@ -131,7 +140,7 @@ static void access_register(bench *b)
     make(b, &s);
     if (b->both.second.outcome.refusal == MODE_UNDER_WAY && !traffic_once_in(&b->source, 8)) {
         do
-            write_con1(b, traffic_below(&b->source, 256) & 0xDF);
+            write_value(b, CON1, traffic_below(&b->source, 256) & 0xDF);
         while (traffic_once_in(&b->source, 3));
         make(b, &s);
     }
@@ -140,7 +149,38 @@ static void access_register(bench *b)
 /* A module switched off by a write is mostly switched on again. */
 static void switch_on(bench *b)
 {
-    write_con1(b, traffic_once_in(&b->source, 2) ? 0x3E : 0x36);
+    write_value(b, CON1, traffic_once_in(&b->source, 2) ? 0x3E : 0x36);
+}
+
+/* What software does between the eighth fall of a byte and its ninth, in a hold or in the slot: it reads BUF, clears SSPOV,
+   turns ACKDT over, clears SSPIF, releases, or switches off; SSPOV can be cleared with the release too. */
+static void access_before_ninth(bench *b)
+{
+    const second_view *v = &b->both.second.view;
+    unsigned released = traffic_once_in(&b->source, 2) ? 0x10 : 0;
+    pair_step s = step_of(b, PAIR_READ);
+
+    switch (traffic_below(&b->source, traffic_once_in(&b->source, 4) ? 6 : 5)) {
+    case 0:
+        s.number = BUF;
+        make(b, &s);
+        break;
+    case 1:
+        write_value(b, CON1, (v->con1 & 0xAFu) | released);
+        break;
+    case 2:
+        write_value(b, CON2, v->con2 ^ 0x20u);
+        break;
+    case 3:
+        write_value(b, FLAG, 0);
+        break;
+    case 4:
+        write_value(b, CON1, v->con1 | released);
+        break;
+    default:
+        write_value(b, CON1, v->con1 & 0xDFu);
+        break;
+    }
 }
 
 /* ---- Steps that are refused ---- */
@@ -311,27 +351,29 @@ static void some_phase(bench *b, uint8_t *image, int phase)
     }
     if (phase == DATA && traffic_once_in(&b->source, 4)) {
         image[9] = image[10] = 0;
-        image[11] = 1;
+        image[PART_AT] = 1;
         image[CON1] &= 0xEF;
-    } else if (phase == HELD_BEFORE || phase == SLOT) {
-        image[11] = (uint8_t)traffic_below(&b->source, 2);
+    } else if (phase == HELD_BEFORE) {
+        image[PART_AT] = (uint8_t)traffic_below(&b->source, 2);
+    } else if (phase == SLOT) {
+        image[PART_AT] = (uint8_t)(SLOT_PULLING + traffic_below(&b->source, SLOT_DECLINED));
     }
     image[12] = (uint8_t)(wire > 3 ? (unsigned)NO_WIRE : wire);
     if (phase == ADDRESS && image[9] == 0 && (wire == 2 || wire == 3) && (image[STAT] & 0x08))
         image[13] = (uint8_t)traffic_below(&b->source, 2);
 }
 
-/* Changes a byte of a state: to any value, by one, or to what is just past its range. */
+/* Changes a byte of a state: to any value, by one, or to what is just outside its range. */
 static void spoil(bench *b, uint8_t *image, unsigned n)
 {
-    static const uint8_t places[7] = {8, 9, 11, 12, 12, 13, 20}, values[7] = {8, 9, 2, 1, 4, 2, 2};
-    unsigned pick = traffic_below(&b->source, 10), place = traffic_below(&b->source, 21);
+    static const uint8_t places[9] = {8, 9, 11, 11, 11, 12, 12, 13, 20}, values[9] = {8, 9, 0, 2, 4, 1, 4, 2, 2};
+    unsigned pick = traffic_below(&b->source, 12), place = traffic_below(&b->source, 21);
 
-    if (pick < 7)
+    if (pick < 9)
         image[places[pick]] = values[pick];
-    else if (pick == 7)
+    else if (pick == 9)
         image[18] = (uint8_t)n;
-    else if (pick == 8)
+    else if (pick == 10)
         image[place] = (uint8_t)(image[place] + (traffic_once_in(&b->source, 2) ? 1 : 255));
     else
         image[traffic_below(&b->source, PAIR_IMAGE)] = (uint8_t)traffic_below(&b->source, 256);
@@ -363,6 +405,7 @@ static void place(bench *b)
 static int take(void *to, unsigned item)
 {
     bench *b = to;
+    const second_view *v = &b->both.second.view;
     pair_step s;
 
     if (traffic_once_in(&b->source, 30))
@@ -373,13 +416,15 @@ static int take(void *to, unsigned item)
         place(b);
     if (traffic_once_in(&b->source, 60))
         find(b);
-    if (!(b->both.second.view.con1 & 0x20) && traffic_once_in(&b->source, 8))
+    if (!(v->con1 & 0x20) && traffic_once_in(&b->source, 8))
         switch_on(b);
+    if ((v->phase == HELD_BEFORE || v->phase == SLOT) && traffic_once_in(&b->source, 3))
+        access_before_ninth(b);
     s = step_of(b, item == TRAFFIC_CALL ? PAIR_CALL : PAIR_SAMPLE);
     if (s.kind == PAIR_SAMPLE)
         s.number = (uint8_t)item;
     make(b, &s);
-    return b->both.second.view.scl_pulled;
+    return v->scl_pulled;
 }
 
 /* Both afresh, with a window anywhere in a buffer of any bytes. */
@@ -423,7 +468,7 @@ static void round_once(bench *b)
 
 /* ---- The whole ---- */
 
-/* Whether every refusal, every phase and the mode 1110 came up. */
+/* Whether every refusal, every phase, the mode 1110, every case of a slot and every moment came up. */
 static int all_reached(const bench *b)
 {
     int i;
@@ -434,7 +479,7 @@ static int all_reached(const bench *b)
     for (i = 0; i < PHASES; i++)
         if (b->phases[i] == 0)
             return 0;
-    return b->with_1110 > 0;
+    return b->with_1110 > 0 && slots_all(b->slots) && moments_all(b->moments);
 }
 
 /* Tells what was reached. */
@@ -452,6 +497,10 @@ static void tell_reach(const bench *b)
            " sending %lu master's acknowledge %lu\n", b->with_1110, b->phases[QUIET], b->phases[ADDRESS], b->phases[DATA],
            b->phases[HELD_BEFORE], b->phases[SLOT], b->phases[HELD_SENDING], b->phases[SENDING],
            b->phases[MASTER_ACK]);
+    printf("# ");
+    slots_tell(b->slots);
+    printf("; ");
+    moments_tell(b->moments);
 }
 
 /* Rounds up to so many steps or the first difference, which is told; answers the steps of the trace told. */

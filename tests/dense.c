@@ -2,13 +2,16 @@
    beside the second program's run. */
 #include "door.h"
 #include "second.h"
+#include "slots.h"
 #include "traffic.h"
 
 #include <stdio.h>
 #include <stdlib.h>
 #include <string.h>
 
-enum { IMAGE = DOOR_IMAGE, LONGEST = 4096, MEMORY = 256, CON1 = 2, CON2 = 3, CON3 = 4 };
+enum { IMAGE = DOOR_IMAGE, LONGEST = 4096, MEMORY = 256, CON1 = 2, CON2 = 3, CON3 = 4, FLAG = 7 };
+
+enum { LONG_RUN = 1000000 }; /* items from which on slots of every case have to come up */
 
 /* A state with its memory. */
 typedef struct {
@@ -23,6 +26,7 @@ typedef struct {
     device before, stepped;
     int spoil;
     unsigned long items, runs, rows, calls, differences;
+    unsigned long slots[SLOT_CASES];   /* rows after which a slot stands, by its case */
 } bench;
 
 /* ---- One item at a time ---- */
@@ -76,6 +80,7 @@ static int take(void *to, unsigned item)
 {
     bench *b = to;
     unsigned times = item == TRAFFIC_CALL ? 1 : some_times(&b->source);
+    door_view v;
 
     if (b->length + times > LONGEST)
         compare(b);
@@ -86,12 +91,15 @@ static int take(void *to, unsigned item)
     b->items += times;
     while (times-- > 0)
         step(b, item);
-    return door.look(b->stepped.image, IMAGE).scl_pulled;
+    v = door.look(b->stepped.image, IMAGE);
+    if (v.phase == DOOR_SLOT)
+        b->slots[slot_case(v.sda_pulled, v.refused)]++;
+    return v.scl_pulled;
 }
 
 /* ---- Rounds ---- */
 
-/* A fresh state, mostly with other settings than the handler's: switched off, then mostly on again with the mode 1110. */
+/* A fresh state, mostly with other settings than the handler's: switched off, then mostly on again with either mode. */
 static int begin(bench *b)
 {
     static const uint16_t lengths[4] = {1, 2, 255, 256};
@@ -107,30 +115,40 @@ static int begin(bench *b)
         refusals |= door.write(b->stepped.image, IMAGE, CON3, (uint8_t)(traffic_below(t, 256) & 0x63)).refusal;
         refusals |= door.write(b->stepped.image, IMAGE, CON1, 0x16).refusal;
         if (!traffic_once_in(t, 8))
-            refusals |= door.write(b->stepped.image, IMAGE, CON1, 0x3E).refusal;
+            refusals |= door.write(b->stepped.image, IMAGE, CON1, traffic_once_in(t, 2) ? 0x3E : 0x36).refusal;
     }
     b->before = b->stepped;
     b->length = 0;
     return refusals == 0;
 }
 
+/* A run ends here; software clears SSPIF, so that the next run shows where it comes from. */
+static int run_ends(bench *b)
+{
+    uint32_t refusal;
+
+    compare(b);
+    refusal = door.write(b->stepped.image, IMAGE, FLAG, 0).refusal;
+    b->before = b->stepped;
+    return refusal == 0;
+}
+
 /* Some messages and noise, in runs of their own and over each other's ends. */
 static int round_of(bench *b)
 {
     unsigned messages = 1 + traffic_below(&b->source, 6);
+    int fine = begin(b);
 
-    if (!begin(b))
-        return 0;
-    while (messages-- > 0) {
+    while (fine && messages-- > 0) {
         b->source.left = 400;
         if (traffic_once_in(&b->source, 6))
             traffic_noise(&b->source);
         traffic_message(&b->source);
         if (traffic_once_in(&b->source, 2))
-            compare(b);
+            fine = run_ends(b);
     }
     compare(b);
-    return 1;
+    return fine;
 }
 
 /* The arguments: about how many items, a seed, and whether runs are spoilt, which has to be found. */
@@ -147,6 +165,8 @@ int main(int argc, char **argv)
     b.source.to = &b;
     while (b.items < items && fine && (b.spoil || b.differences == 0))
         fine = round_of(&b);
-    printf("items %lu rows %lu calls %lu runs %lu differences %lu\n", b.items, b.rows, b.calls, b.runs, b.differences);
-    return fine && (b.differences != 0) == b.spoil ? 0 : 1;
+    printf("items %lu rows %lu calls %lu runs %lu ", b.items, b.rows, b.calls, b.runs);
+    slots_tell(b.slots);
+    printf(" differences %lu\n", b.differences);
+    return fine && (items < LONG_RUN || slots_all(b.slots)) && (b.differences != 0) == b.spoil ? 0 : 1;
 }

@@ -1,5 +1,6 @@
 /* Mangles images that random traffic reached: each is refused with 6 and left alone by every call, or taken as a state. */
 #include "door.h"
+#include "slots.h"
 #include "traffic.h"
 #include "write_refusal.h"
 
@@ -7,7 +8,7 @@
 #include <stdlib.h>
 #include <string.h>
 
-enum { REGISTERS = 8, CON1 = 2, FLAG = 7, AT_N = 16 };
+enum { REGISTERS = 8, CON1 = 2, FLAG = 7, AT_PHASE = 8, AT_N = 16 };
 
 /* The room that an image is laid into, guard bytes around it and a shift of up to 7 bytes before it. */
 enum { GUARD = 16, SHIFTS = 8, LONGEST = 64, ROOM = GUARD + SHIFTS + LONGEST + GUARD, FILLER = 0x5A };
@@ -40,6 +41,7 @@ typedef struct {
     uint8_t buffer[BUFFER];
     uint8_t untouched[BUFFER];    /* the buffer as it was before a call */
     unsigned long wanted, mutations, taken, refused, modes, calls, failures;
+    unsigned long slots[SLOT_CASES];   /* mutations taken as a slot, by its case */
 } bench;
 
 /* A window with all that a call on it needs. */
@@ -78,14 +80,16 @@ static void flip_bits(bench *b, mangled *m)
         m->bytes[below(b, DOOR_IMAGE)] ^= (uint8_t)(1u << below(b, 8));
 }
 
-/* Changes a few bytes, to any value, by one, or to one at the edge of a range. */
+/* Changes a few bytes, to any value, by one, or to one at the edge of a range; the byte that tells a slot's case as often as
+   all the others in a slot. */
 static void change_bytes(bench *b, mangled *m)
 {
     static const uint8_t edges[10] = {0, 1, 2, 3, 4, 7, 8, 9, 254, 255};
     unsigned times = 1 + below(b, 3);
 
     while (times-- > 0) {
-        uint8_t *byte = &m->bytes[below(b, below(b, 2) ? DOOR_IMAGE : 21)];
+        int slot = m->bytes[AT_PHASE] == DOOR_SLOT && below(b, 2);
+        uint8_t *byte = &m->bytes[slot ? (unsigned)PART_AT : below(b, below(b, 2) ? DOOR_IMAGE : 21)];
         unsigned pick = below(b, 4);
 
         if (pick == 0)
@@ -245,6 +249,18 @@ static window some_window(bench *b, int state, unsigned n)
     return w;
 }
 
+/* A slot that is taken shows the case that its image tells. */
+static void check_slot(bench *b, const mangled *m, const door_view *v)
+{
+    unsigned shown = slot_case(v->sda_pulled, v->refused);
+
+    if (v->refusal != 0 || v->phase != DOOR_SLOT)
+        return;
+    b->slots[shown]++;
+    if (shown != m->bytes[PART_AT])
+        fail(b, m, "look shows another case of a slot");
+}
+
 /* One mutation through every call. */
 static void try_one(bench *b)
 {
@@ -268,6 +284,7 @@ static void try_one(bench *b)
         fail(b, &m, "look on no state's bytes");
     if (state && (m.length != DOOR_IMAGE || v.n != m.bytes[AT_N] + 256u * m.bytes[AT_N + 1]))
         fail(b, &m, "look takes another length or tells another n");
+    check_slot(b, &m, &v);
     w = some_window(b, state, v.n);
     single_calls(b, &m, &w, refusal);
     window_calls(b, &m, &w, refusal);
@@ -362,7 +379,8 @@ int main(int argc, char **argv)
                 traffic_message(&b.source);
         }
     }
-    printf("mutations %lu refused %lu taken %lu changes of mode %lu calls %lu failures %lu\n",
-           b.mutations, b.refused, b.taken, b.modes, b.calls, b.failures);
-    return b.failures == 0 && b.taken > 0 && b.refused > 0 && b.modes > 0 ? 0 : 1;
+    printf("mutations %lu refused %lu taken %lu changes of mode %lu ", b.mutations, b.refused, b.taken, b.modes);
+    slots_tell(b.slots);
+    printf(" calls %lu failures %lu\n", b.calls, b.failures);
+    return b.failures == 0 && b.taken > 0 && b.refused > 0 && b.modes > 0 && slots_all(b.slots) ? 0 : 1;
 }

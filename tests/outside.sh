@@ -187,7 +187,7 @@ bench_checked() { # each way of feeding, at some samples per clock, and the wire
     "$out/checked_wire" counted 4 "$out/bench_wire"
 }
 checked() {
-    try checked_replay "$out/checked_replay" tests/vectors/request-6.txt
+    try checked_replay "$out/checked_replay" tests/vectors/request-4.txt
     try checked_agree "$out/checked_agree" 40000
     try checked_checks "$out/checked_checks"
     try checked_dense "$out/checked_dense" 200000

@@ -1,5 +1,6 @@
 /* Checks through the door every refusal by each of its causes, alone and beside every other, and windows at every edge. */
 #include "door.h"
+#include "slots.h"
 #include "write_refusal.h"
 
 #include <stdio.h>
@@ -8,15 +9,18 @@
 enum { BUF, STAT, CON1, CON2, CON3, ADD, MSK, FLAG, REGISTERS };
 
 /* Places in an image after the eight registers. */
-enum { AT_PHASE = 8, AT_COUNT, AT_BYTE, AT_YES, AT_WIRE, AT_MARK, AT_GAP, AT_N = 16, AT_POINTER = 18, AT_DUE = 20, AT_REST };
+enum { AT_PHASE = 8, AT_COUNT, AT_BYTE, AT_PART, AT_WIRE, AT_MARK, AT_GAP, AT_N = 16, AT_POINTER = 18, AT_DUE = 20, AT_REST };
 
 enum { GUARD = 16, LONGEST = 64, ROOM = GUARD + LONGEST + GUARD, FILLER = 0x5A, BUFFER = 320, N = 32, LONG_TRACE = 70000 };
 
 /* States that the door itself makes; each cause of refusal 6 is a small change to one of them. */
 enum {
-    FRESH, OFF, MARKED, ADDRESS_BITS, ADDRESS_WHOLE, DATA_BITS, DATA_WHOLE, HELD_DATA, HELD_BEFORE, SLOT,
-    HELD_SENDING, SENDING, MASTER_ACK, STATES
+    FRESH, OFF, MARKED, ADDRESS_BITS, ADDRESS_WHOLE, DATA_BITS, DATA_WHOLE, HELD_DATA, HELD_BEFORE, HELD_REFUSED,
+    PULLING, REFUSED, DECLINED, HELD_SENDING, SENDING, MASTER_ACK, STATES
 };
+
+/* The holds, and the slots: pulling, refused, declined. */
+static const uint8_t holds[4] = {HELD_DATA, HELD_BEFORE, HELD_REFUSED, HELD_SENDING}, slots[3] = {PULLING, REFUSED, DECLINED};
 
 /* All of them with SSPM 0110, behind them all with SSPM 1110, and behind these both once more with WCOL and SSPOV 1. */
 enum { WITH_1110 = STATES, WITH_WCOL_SSPOV = 2 * STATES, ALL_STATES = 4 * STATES };
@@ -114,6 +118,7 @@ static void set_wcol_and_sspov(void)
 static void reach_all(void)
 {
     static const char to_slot[] = "32 0 20 20 31 31 20 20 20 20";
+    static const char to_overflow[] = "32 0 20 20 31 31 20 20 20 20 31 31 20 20 20 20 20 20 20"; /* with SEN 0 */
     static const char to_sending[] = "32 0 20 20 31 31 20 20 20 31 31";
 
     memset(untouched, 0xC3, BUFFER);
@@ -125,8 +130,11 @@ static void reach_all(void)
     reach(MARKED, 0x01, 0x00, "32", DOOR_ADDRESS);
     reach(ADDRESS_BITS, 0x01, 0x00, "32 0 20 31 2", DOOR_ADDRESS);
     reach(ADDRESS_WHOLE, 0x01, 0x00, "32 0 20 20 31 31 20 20 20 2", DOOR_ADDRESS);
-    reach(SLOT, 0x01, 0x00, to_slot, DOOR_SLOT);
+    reach(PULLING, 0x01, 0x00, to_slot, DOOR_SLOT);
+    reach(REFUSED, 0x00, 0x00, to_overflow, DOOR_SLOT);
+    reach(DECLINED, 0x21, 0x02, "32 0 20 20 31 31 20 20 20 20 h", DOOR_SLOT);
     reach(HELD_BEFORE, 0x01, 0x02, to_slot, DOOR_HELD_BEFORE);
+    reach(HELD_REFUSED, 0x00, 0x01, to_overflow, DOOR_HELD_BEFORE);
     reach(HELD_DATA, 0x01, 0x00, "32 0 20 20 31 31 20 20 20 20 31", DOOR_DATA);
     reach(DATA_BITS, 0x01, 0x00, "32 0 20 20 31 31 20 20 20 20 31 h 31 2", DOOR_DATA);
     reach(DATA_WHOLE, 0x01, 0x00, "32 0 20 20 31 31 20 20 20 20 31 h 31 20 20 20 20 20 20 3", DOOR_DATA);
@@ -200,6 +208,8 @@ static void spoil_registers(void)
 /* What the paper says of mark, wire and hold. */
 static void spoil_conditions(void)
 {
+    int i;
+
     spoil(MARKED, STAT, 0xF7, 0, "a mark without S");
     spoil_range(MARKED, AT_WIRE, 0, 1, "a mark with SCL low");
     spoil(MARKED, AT_WIRE, 0, 255, "a mark with no wire");
@@ -212,27 +222,27 @@ static void spoil_conditions(void)
     spoil_range(DATA_WHOLE, AT_WIRE, 0, 1, "8 bits of data with SCL low");
     spoil(DATA_WHOLE, AT_WIRE, 0, 255, "8 bits of data with no wire");
     spoil_range(FRESH, AT_WIRE, 4, 254, "a wire above 3");
-    spoil(HELD_DATA, CON1, 0xFF, 0x10, "held data with CKP 1");
-    spoil(HELD_BEFORE, CON1, 0xFF, 0x10, "held before acknowledge with CKP 1");
-    spoil(HELD_SENDING, CON1, 0xFF, 0x10, "held for sending with CKP 1");
+    for (i = 0; i < 4; i++)
+        spoil(holds[i], CON1, 0xFF, 0x10, "a hold with CKP 1");
 }
 
 /* A phase with parts that are not its own, or out of their range. */
 static void spoil_parts(void)
 {
-    static const uint8_t bare[6] = {FRESH, HELD_BEFORE, SLOT, HELD_SENDING, MASTER_ACK, HELD_DATA};
+    static const uint8_t bare[9] = {FRESH, HELD_BEFORE, HELD_REFUSED, PULLING, REFUSED, DECLINED, HELD_SENDING, MASTER_ACK,
+                                    HELD_DATA};
     static const uint8_t without[5] = {FRESH, ADDRESS_BITS, HELD_SENDING, SENDING, MASTER_ACK};
-    static const uint8_t with[3] = {HELD_DATA, HELD_BEFORE, SLOT};
+    static const uint8_t with[3] = {HELD_DATA, HELD_BEFORE, HELD_REFUSED};
     unsigned i;
 
-    for (i = 0; i < 6; i++) {
+    for (i = 0; i < 9; i++) {
         spoil_range(bare[i], AT_COUNT, 1, 255, "a count where the phase has none");
         spoil_range(bare[i], AT_BYTE, 1, 255, "a byte where the phase has none");
     }
     for (i = 0; i < 5; i++)
-        spoil_range(without[i], AT_YES, 1, 255, "held, refused or pulling where the phase has none");
+        spoil_range(without[i], AT_PART, 1, 255, "held, refused or a slot's case where the phase has none");
     for (i = 0; i < 3; i++)
-        spoil_range(with[i], AT_YES, 2, 255, "held, refused or pulling above 1");
+        spoil_range(with[i], AT_PART, 2, 255, "held or refused above 1");
     spoil(ADDRESS_BITS, AT_BYTE, 0, 8, "3 bits above 7");
     spoil(DATA_BITS, AT_BYTE, 0, 4, "2 bits above 3");
     spoil(MARKED, AT_BYTE, 0, 1, "no bits above 0");
@@ -240,6 +250,17 @@ static void spoil_parts(void)
     spoil_range(DATA_WHOLE, AT_COUNT, 9, 255, "more than 8 bits of data");
     spoil_range(SENDING, AT_COUNT, 8, 255, "a place above 7");
     spoil_range(FRESH, AT_PHASE, 8, 255, "a phase above 7");
+}
+
+/* A slot's case: 0, which a slot that does not pull had in older images, and all above 3 are none. */
+static void spoil_slots(void)
+{
+    unsigned i;
+
+    for (i = 0; i < 3; i++) {
+        spoil(slots[i], AT_PART, 0, 0, "a slot of no case");
+        spoil_range(slots[i], AT_PART, SLOT_CASES, 255, "a slot's case above 3");
+    }
 }
 
 /* The handler's part and the zeros, and the image's length. */
@@ -295,6 +316,38 @@ static void neighbours(void)
     image[AT_N + 1] = 1;
     image[AT_POINTER] = 255;
     expect(door.look(image, DOOR_IMAGE).pointer == 255, "n of 256 with the last pointer", 0);
+}
+
+/* A view of a slot: of this case, and no more of the phase's parts. */
+static int shows_slot(const uint8_t *state, unsigned wanted)
+{
+    door_view v = door.look(state, DOOR_IMAGE);
+
+    return v.refusal == 0 && v.phase == DOOR_SLOT && slot_case(v.sda_pulled, v.refused) == wanted
+        && v.scl_pulled == 0 && v.bits == 0 && v.byte == 0;
+}
+
+/* The slots that the door makes have their cases, and each of the three cases is taken in each of them. */
+static void slot_cases(void)
+{
+    int i;
+    uint8_t part;
+
+    for (i = 0; i < ALL_STATES; i += STATES) {
+        expect(states[i + PULLING][AT_PART] == SLOT_PULLING, "a slot that pulls", (unsigned long)i);
+        expect(states[i + REFUSED][AT_PART] == SLOT_REFUSED, "a refused slot", (unsigned long)i);
+        expect(states[i + DECLINED][AT_PART] == SLOT_DECLINED, "a declined slot", (unsigned long)i);
+        expect(states[i + HELD_REFUSED][AT_PART] == 1, "a refused hold", (unsigned long)i);
+        expect(states[i + HELD_BEFORE][AT_PART] == 0, "a hold that is not refused", (unsigned long)i);
+    }
+    for (i = 0; i < 3; i++)
+        for (part = SLOT_PULLING; part < SLOT_CASES; part++) {
+            lay(states[slots[i]]);
+            image[AT_PART] = part;
+            expect(shows_slot(image, part), "a slot of each case", part);
+        }
+    expect(door.look(states[HELD_REFUSED], DOOR_IMAGE).refused == 1, "a refused hold is seen", 0);
+    expect(door.look(states[HELD_BEFORE], DOOR_IMAGE).refused == 0, "a hold that is not refused is seen", 0);
 }
 
 /* ---- Refusals 1, 2, 3, 8 and 4 in single calls ---- */
@@ -378,14 +431,12 @@ static void mode_in_hold(const uint8_t *state)
 /* Off with every SSPM, and each hold in both modes, WCOL and SSPOV 0 and 1. */
 static void modes(void)
 {
-    int i;
+    int i, j;
 
     modes_while_off();
-    for (i = 0; i < ALL_STATES; i += STATES) {
-        mode_in_hold(states[i + HELD_DATA]);
-        mode_in_hold(states[i + HELD_BEFORE]);
-        mode_in_hold(states[i + HELD_SENDING]);
-    }
+    for (i = 0; i < ALL_STATES; i += STATES)
+        for (j = 0; j < 4; j++)
+            mode_in_hold(states[i + holds[j]]);
 }
 
 /* ---- Refusal 5: windows at every edge ---- */
@@ -560,9 +611,11 @@ int main(void)
 {
     reach_all();
     neighbours();
+    slot_cases();
     spoil_registers();
     spoil_conditions();
     spoil_parts();
+    spoil_slots();
     spoil_rest();
     single_calls();
     modes();

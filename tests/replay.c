@@ -167,7 +167,7 @@ static int phase(const char **p, sight *s)
     }
     if (word(p, "slot:")) {
         v->phase = DOOR_SLOT;
-        return yes_no(p, &s->pulling);
+        return yes_no(p, &s->pulling) && word(p, ":") && decimal_field(p, 1, &v->refused);
     }
     v->phase = DOOR_SENDING;
     return word(p, "send:") && hex_field(p, &v->byte) && word(p, ":") && decimal_field(p, 7, &v->bits);

@@ -138,7 +138,7 @@ static void tell_phase(const second_view *v)
     else if (v->phase == 3)
         printf("before:%u", v->refused);
     else if (v->phase == 4)
-        printf("slot:%u", v->sda_pulled);
+        printf("slot:%u:%u", v->sda_pulled, v->refused);
     else if (v->phase == 6)
         printf("send:%02X:%u", v->byte, v->bits);
     else

@@ -48,7 +48,7 @@ through_the_door() { # through_the_door with_archive|with_second
     beside "checks_$1" "$1" checks ""
     beside "refusals_$1" "$1" refusals ""
     beside "agree_$1" "$1" agree "tests/second/plain.c tests/traffic.c" 400000
-    beside "replay_$1" "$1" replay "" tests/vectors/request-6.txt
+    beside "replay_$1" "$1" replay "" tests/vectors/request-4.txt
 }
 
 # ---- Without the archive ----

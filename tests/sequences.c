@@ -1,6 +1,7 @@
 /* Goes through the step lists of the source documents by the door, and checks bits and phase at every numbered step. */
 #include "door.h"
 #include "sequences.h"
+#include "slots.h"
 
 #include <stdio.h>
 #include <stdlib.h>
@@ -203,16 +204,19 @@ static int listed(const char *list, const char *name)
     return 0;
 }
 
-/* The phase in words, with what it shows of the lines. */
+/* The phase in words, with what it shows of the lines and of a refused byte. */
 static const char *phase_name(const door_view *v)
 {
     static const char *const names[8] = {"quiet", "address", "data", "held before acknowledge", "slot",
                                          "held for sending", "sending", "master's acknowledge"};
+    static const char *const slots[SLOT_CASES] = {"slot of no case", "slot, pulling", "slot, refused", "slot, declined"};
 
     if (v->phase == DOOR_DATA && v->scl_pulled)
         return "data, held";
-    if (v->phase == DOOR_SLOT && v->sda_pulled)
-        return "slot, pulling";
+    if (v->phase == DOOR_HELD_BEFORE && v->refused)
+        return "held before acknowledge, refused";
+    if (v->phase == DOOR_SLOT)
+        return slots[slot_case(v->sda_pulled, v->refused)];
     return v->phase < 8 ? names[v->phase] : "no phase";
 }
 

@@ -92,9 +92,9 @@ static const row rows[] = {
     STEP("14a", "-ACKDT wait +CKP", "S DA CKP ACKTIM", "slot, pulling"),
     STEP("14b", "up dn", "S DA CKP SSPIF", "data"),
     STEP("14c", "-SSPIF bA2", "S DA BF ACKTIM SSPIF", "held before acknowledge"),
-    STEP("14d", "-SSPIF r0=A2 +ACKDT +CKP", "S DA CKP ACKTIM", "slot"),    /* declined by ACKDT */
-    STEP("15a", "up", "S DA CKP", "slot"),
-    STEP("15b", "dn", "S DA CKP", "quiet"),                                /* no acknowledge, no SSPIF */
+    STEP("14d", "-SSPIF r0=A2 +ACKDT +CKP", "S DA CKP ACKTIM", "slot, declined"),
+    STEP("15a", "up", "S DA CKP", "slot, declined"),
+    STEP("15b", "dn", "S DA CKP", "quiet"),                                /* no acknowledge by ACKDT alone: no SSPIF */
     STEP("15c", "P", "P DA CKP", "quiet"),                                 /* PCIE 0: P alone tells it */
 
     SEQUENCE("brief 2.2.6.2, reception with AHEN and DHEN, SEN 1 (figure 2-9)", "+AHEN +DHEN +SEN"),
@@ -168,8 +168,8 @@ static const row rows[] = {
     STEP("6", "S b31 -SSPIF r0=31", "RW S ACKTIM", "held before acknowledge"),
     STEP("12", "w0=77", "RW S WCOL ACKTIM", "held before acknowledge"),    /* rules: WCOL and no more */
     STEP("7", "+ACKDT", "RW S WCOL ACKTIM", "held before acknowledge"),
-    STEP("8", "-WCOL +CKP", "RW S CKP ACKTIM", "slot"),
-    STEP("9", "up", "RW S CKP", "slot"),
+    STEP("8", "-WCOL +CKP", "RW S CKP ACKTIM", "slot, declined"),
+    STEP("9", "up", "RW S CKP", "slot, declined"),
     STEP("10", "dn", "RW S CKP", "quiet"),                                 /* rules: R/W stays until the next condition */
 
     SEQUENCE("brief 2.2.4, general call (figure 2-5)", "+GCEN -SEN"),
@@ -198,18 +198,40 @@ static const row rows[] = {
 
     SEQUENCE("brief 2.2.6 and 2.1.8, overflow: BF stands, then SSPOV alone", "-SEN"),
     STEP("a", "S b30 up dn", "S BF CKP SSPIF", "data"),
-    STEP("b", "-SSPIF bA1", "S DA BF SSPOV CKP", "slot"),
-    STEP("c", "up dn", "S DA BF SSPOV CKP", "quiet"),
-    STEP("d", "r0=30", "S DA SSPOV CKP", "quiet"),                         /* BUF kept what it had */
-    STEP("e", "P S b30", "S BF SSPOV CKP", "slot"),
-    STEP("f", "up dn -SSPOV r0=30", "S CKP", "quiet"),
-    STEP("g", "R b30", "S BF CKP", "slot, pulling"),
+    STEP("b", "-SSPIF bA1", "S DA BF SSPOV CKP", "slot, refused"),
+    STEP("c", "up", "S DA BF SSPOV CKP", "slot, refused"),
+    STEP("d", "dn", "S DA BF SSPOV CKP SSPIF", "quiet"),                   /* rules: SSPIF for a refused byte too */
+    STEP("e", "-SSPIF r0=30", "S DA SSPOV CKP", "quiet"),                  /* BUF kept what it had */
+    STEP("f", "P S b30", "S BF SSPOV CKP", "slot, refused"),
+    STEP("g", "up dn", "S BF SSPOV CKP SSPIF", "quiet"),
+    STEP("h", "-SSPIF -SSPOV r0=30", "S CKP", "quiet"),
+    STEP("i", "R b30", "S BF CKP", "slot, pulling"),
 
     SEQUENCE("brief 2.2.6.2 and 2.1.8, overflow with DHEN: held all the same, and not acknowledged", "+DHEN -SEN"),
     STEP("a", "S b30 up dn -SSPIF", "S BF CKP", "data"),
-    STEP("b", "bA1", "S DA BF SSPOV ACKTIM SSPIF", "held before acknowledge"),
-    STEP("c", "-SSPIF r0=30 -ACKDT wait +CKP", "S DA SSPOV CKP ACKTIM", "slot"),
-    STEP("d", "up dn", "S DA SSPOV CKP", "quiet"),
+    STEP("b", "bA1", "S DA BF SSPOV ACKTIM SSPIF", "held before acknowledge, refused"),
+    STEP("c", "-SSPIF r0=30 -ACKDT wait +CKP", "S DA SSPOV CKP ACKTIM", "slot, refused"),
+    STEP("d", "up", "S DA SSPOV CKP", "slot, refused"),
+    STEP("e", "dn", "S DA SSPOV CKP SSPIF", "quiet"),                      /* rules: SSPIF a second time */
+
+    SEQUENCE("brief 2.2.7.2 and 2.1.8, overflow at an address that asks to send", "-SEN"),
+    STEP("a", "S b30 up dn -SSPIF P", "P BF CKP", "quiet"),
+    STEP("b", "S b31 up", "RW S BF SSPOV CKP", "slot, refused"),
+    STEP("c", "dn", "RW S BF SSPOV CKP SSPIF", "quiet"),                   /* not held for sending; rules: R/W stays */
+    STEP("d", "-SSPIF gFF up dn", "RW S BF SSPOV CKP", "quiet"),           /* nothing is sent */
+
+    SEQUENCE("brief 2.2.7.3 and 2.1.8, overflow with AHEN at an address that asks to send, ACKDT 1", "-SEN"),
+    STEP("a", "S b30 up dn -SSPIF P +AHEN +ACKDT", "P BF CKP", "quiet"),
+    STEP("b", "S b31", "RW S BF SSPOV ACKTIM SSPIF", "held before acknowledge, refused"),
+    STEP("c", "-SSPIF r0=30 -SSPOV", "RW S ACKTIM", "held before acknowledge, refused"),
+    STEP("d", "wait +CKP", "RW S CKP ACKTIM", "slot, refused"),            /* rules: the eighth fall has decided */
+    STEP("e", "up dn", "RW S CKP SSPIF", "quiet"),
+
+    SEQUENCE("rules, request 4: a received byte by BF and SSPOV as they stand", "-SEN"),
+    STEP("BF 0, SSPOV 0", "S b30 up dn", "S BF CKP SSPIF", "data"),
+    STEP("BF 1, SSPOV 0", "-SSPIF bA1 up dn", "S DA BF SSPOV CKP SSPIF", "quiet"),
+    STEP("BF 1, SSPOV 1", "-SSPIF R b30 up dn", "S BF SSPOV CKP SSPIF", "quiet"),
+    STEP("BF 0, SSPOV 1", "-SSPIF r0=30 R b30 up dn", "S BF SSPOV CKP SSPIF", "quiet"),
 
     SEQUENCE("brief 2.1.5, a Stop needs a low SCL before it", ""),
     STEP("a", "S =3", "S CKP", "address"),

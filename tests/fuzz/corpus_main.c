@@ -1,11 +1,10 @@
-/* Feeds stored inputs to a fuzz target, and mixtures of them at random, where the fuzzer itself is not at hand. */
-#include <stddef.h>
-#include <stdint.h>
+/* Feeds stored inputs to a fuzz target, and mixtures of them at random, where the fuzzer itself is not at hand. The stored
+   inputs alone have to come to all that the target wants reached. */
+#include "target.h"
+
 #include <stdio.h>
 #include <stdlib.h>
 #include <string.h>
-
-int LLVMFuzzerTestOneInput(const uint8_t *data, size_t size);
 
 enum { LONGEST = 1 << 12, INPUTS = 4096 };
 
@@ -64,20 +63,24 @@ int main(int argc, char **argv)
     static uint8_t mixed[2 * LONGEST];
     unsigned long rounds = argc > 1 ? strtoul(argv[1], NULL, 10) : 0, round;
     size_t i;
-    int file;
+    int file, all;
 
     for (file = 2; file < argc; file++)
         if (!take_file(&c, argv[file]))
             return 1;
     for (i = 0; i < c.count; i++)
         (void)LLVMFuzzerTestOneInput(c.data[i], c.length[i]);
+    printf("stored inputs: ");
+    all = target_reached();
     for (round = 0; round < rounds && c.count > 0; round++) {
         size_t length = mix(&c, mixed);
 
         (void)LLVMFuzzerTestOneInput(mixed, length);
     }
+    printf("with mixtures: ");
+    (void)target_reached();
     printf("inputs %lu mixtures %lu\n", (unsigned long)c.count, rounds);
     for (i = 0; i < c.count; i++)
         free(c.data[i]);
-    return c.count > 0 ? 0 : 1;
+    return c.count > 0 && all ? 0 : 1;
 }

@@ -2,15 +2,17 @@
 
    With FUZZ_ARCHIVE the archive and the second program get the same calls and must answer and leave the same; without it
    the second program goes alone. */
+#include "moments.h"
 #include "promise.h"
 #include "step.h"
+#include "target.h"
 #include "write_refusal.h"
 
 #include <string.h>
 
 enum { IMAGE = 48, LONGEST_IMAGE = 64, LONGEST_BUFFER = 300, LONGEST_BYTES = 4096, GUARD_BYTE = 0xA5, HANDLER_CALL = 4 };
 
-enum { CON1 = 2, MODE_UNDER_WAY = 8, HIGHEST_REFUSAL = 8 };
+enum { CON1 = 2, MODE_UNDER_WAY = 8, HIGHEST_REFUSAL = 8, SLOT = 4 };
 
 /* Lent memory is as long as it is said to be. Where address checking sees every access nothing stands around it; else, and
    always around what the archive gets, there are guard bytes. */
@@ -33,7 +35,8 @@ typedef struct {
     uint8_t buffer[LONGEST_BUFFER];
 } program;
 
-int LLVMFuzzerTestOneInput(const uint8_t *data, size_t size);
+/* How often the second program came to each moment. */
+static unsigned long reached[MOMENTS];
 
 /* ---- From bytes to calls ---- */
 
@@ -236,15 +239,19 @@ static outcome make(program *p, const step *s)
     uint8_t *image = lend(p->image, s->state_length);
     uint8_t *buffer = lend(p->buffer, s->buffer_length);
     uint8_t *bytes = lend(s->bytes, s->bytes_length);
+    uint8_t before[LONGEST_IMAGE];
     step lent = *s;
     outcome o;
 
+    memcpy(before, p->image, LONGEST_IMAGE);
     lent.bytes = bytes;
     o = p->make(&lent, image, buffer);
     promise(s->bytes_length == 0 || memcmp(bytes, s->bytes, s->bytes_length) == 0, "trace and record are only read");
     take_back(image, p->image, s->state_length);
     take_back(buffer, p->buffer, s->buffer_length);
     take_back(bytes, NULL, s->bytes_length);
+    if (p->make == second_step && o.refusal == 0 && s->which >= STEP_READ && s->which <= STEP_CALL)
+        moments_count(reached, before, p->image);
     return o;
 }
 
@@ -319,17 +326,22 @@ static void check_part(const step *s, const outcome *o)
     promise(length == 0 ? start == s->item : s->item >= start && s->item - start < length, "a part without the item");
 }
 
-/* After a call that was made the state is a state. */
+/* After a call that was made the state is a state; in a slot its view shows the case that its image tells. */
 static void check_state(program *p, const step *s, const outcome *o)
 {
     step look;
+    outcome view;
 
     if (o->refusal != 0 || s->which >= STEP_LOOK)
         return;
     memset(&look, 0, sizeof look);
     look.which = STEP_LOOK;
     look.state_length = IMAGE;
-    promise(make(p, &look).refusal == 0, "a state after a call that was made");
+    view = make(p, &look);
+    promise(view.refusal == 0, "a state after a call that was made");
+    if (view.seen[SEEN_PHASE] == SLOT)
+        promise(slot_case((unsigned)view.seen[SEEN_SDA_PULLED], (unsigned)view.seen[SEEN_REFUSED]) == p->image[PART_AT],
+                "another case of a slot");
 }
 
 /* A run is its items one by one. */
@@ -418,6 +430,13 @@ static outcome made_by_all(program *first, program *other, const step *s)
     o = made_well(first, s);
 #endif
     return o;
+}
+
+/* Tells the moments around a refused byte; answers whether each has come. */
+int target_reached(void)
+{
+    moments_tell(reached);
+    return moments_all(reached);
 }
 
 /* All calls of one input; an image that was no state is put back after the call that it was refused by. */

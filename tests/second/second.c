@@ -30,6 +30,9 @@ enum { HANDLER_CALL = 4 };
 /* The eight phases. */
 enum { QUIET, ADDRESS, DATA, HELD_BEFORE, SLOT, HELD_SENDING, SENDING, MASTER_ACK, PHASES };
 
+/* The three cases of an acknowledge slot: SDA is pulled; BF or SSPOV refused the intake; ACKDT alone declined the byte. */
+enum { PULLING = 1, REFUSED, DECLINED };
+
 /* Refusals by their numbers. */
 enum {
     DONE = 0, NO_REGISTER = 1, MASTER_BITS = 2, NO_SUCH_MODE = 3,
@@ -38,7 +41,7 @@ enum {
 
 /* The image's length, and the places in it. */
 enum {
-    AT_PHASE = 8, AT_COUNT = 9, AT_BYTE = 10, AT_YES = 11, AT_WIRE = 12, AT_MARK = 13, AT_GAP = 14,
+    AT_PHASE = 8, AT_COUNT = 9, AT_BYTE = 10, AT_PART = 11, AT_WIRE = 12, AT_MARK = 13, AT_GAP = 14,
     AT_N = 16, AT_POINTER = 18, AT_DUE = 20, AT_REST = 21, IMAGE = 48
 };
 
@@ -50,7 +53,7 @@ typedef struct {
     uint8_t byte;    /* address, data: those bits as a number; sending: the byte */
     uint8_t held;    /* data: held or not */
     uint8_t refused; /* held before acknowledge: refused or not */
-    uint8_t pulling; /* acknowledge slot: pulling or not */
+    uint8_t slot;    /* acknowledge slot: which of its three cases */
     uint8_t wire;
     uint8_t mark;
     uint8_t due;
@@ -84,7 +87,7 @@ static void take(module *m, int number, int bits, int value)
     m->reg[number] = (uint8_t)((m->reg[number] & ~bits) | (value & bits));
 }
 
-/* Goes to a phase with all its parts 0: no bits, not held, not refused, not pulling. */
+/* Goes to a phase with all its parts 0: no bits, not held, not refused, no slot. */
 static void enter(module *m, int phase)
 {
     m->phase = (uint8_t)phase;
@@ -92,7 +95,7 @@ static void enter(module *m, int phase)
     m->byte = 0;
     m->held = 0;
     m->refused = 0;
-    m->pulling = 0;
+    m->slot = 0;
 }
 
 /* Whether the clock is held: SCL is pulled exactly then. */
@@ -106,7 +109,7 @@ static int sda_pulled(const module *m)
 {
     if (m->phase == SENDING)
         return ((m->byte >> (7 - m->count)) & 1) == 0;
-    return m->phase == SLOT && m->pulling;
+    return m->slot == PULLING;
 }
 
 /* ---- Start and Stop ---- */
@@ -165,13 +168,17 @@ static void hold(module *m, int phase)
     clear(m, CON1, CKP);
 }
 
-/* Release from a hold before acknowledge: pulling unless refused or ACKDT = 1. */
+/* The acknowledge slot follows; an intake that was refused stays so, whatever ACKDT says. */
+static void enter_slot(module *m, int refused, int declined)
+{
+    enter(m, SLOT);
+    m->slot = refused ? REFUSED : declined ? DECLINED : PULLING;
+}
+
+/* Release from a hold before acknowledge: ACKDT is asked now, BF and SSPOV were asked at the eighth fall. */
 static void release_before(module *m)
 {
-    int pulling = !m->refused && !any(m, CON2, ACKDT);
-
-    enter(m, SLOT);
-    m->pulling = (uint8_t)pulling;
+    enter_slot(m, m->refused, any(m, CON2, ACKDT));
 }
 
 /* Release from the hold for sending: the byte in BUF goes out from bit 7. */
@@ -218,8 +225,7 @@ static void intake(module *m, uint8_t byte, int holding)
         hold(m, HELD_BEFORE);
         m->refused = (uint8_t)refused;
     } else {
-        enter(m, SLOT);
-        m->pulling = (uint8_t)!refused;
+        enter_slot(m, refused, 0);
     }
 }
 
@@ -254,15 +260,15 @@ static void data_ended(module *m)
     intake(m, byte, any(m, CON3, DHEN));
 }
 
-/* Ninth fall of an address or data byte: the slot's pull ends. */
+/* Ninth fall of an address or data byte: SSPIF, but for a byte that ACKDT alone declined. The slot's pull ends; where there
+   was none, quiet follows. */
 static void slot_ended(module *m)
 {
-    if (!m->pulling) {
+    if (m->slot != DECLINED)
+        set(m, FLAG, SSPIF);
+    if (m->slot != PULLING)
         enter(m, QUIET);
-        return;
-    }
-    set(m, FLAG, SSPIF);
-    if (any(m, STAT, RW) && !any(m, STAT, DA))
+    else if (any(m, STAT, RW) && !any(m, STAT, DA))
         hold(m, HELD_SENDING);
     else if (any(m, CON2, SEN))
         hold(m, DATA);
@@ -502,24 +508,36 @@ static int registers_fit(const module *m)
     return !any(m, CON1, SSPEN) || mode == SLAVE || mode == SLAVE_FLAGGED;
 }
 
+/* Takes the part that only three phases have, in the phase that was entered; answers whether it is one of that phase's. */
+static int decode_part(module *m, uint8_t part)
+{
+    switch (m->phase) {
+    case DATA:
+        m->held = part;
+        return part <= 1;
+    case HELD_BEFORE:
+        m->refused = part;
+        return part <= 1;
+    case SLOT:
+        m->slot = part;
+        return part >= PULLING && part <= DECLINED;
+    default:
+        return part == 0;
+    }
+}
+
 /* Takes the phase and its parts from an image; answers whether they are a phase's. */
 static int decode_phase(module *m, const uint8_t *image)
 {
-    uint8_t phase = image[AT_PHASE], count = image[AT_COUNT], byte = image[AT_BYTE], yes = image[AT_YES];
+    uint8_t phase = image[AT_PHASE], count = image[AT_COUNT], byte = image[AT_BYTE];
     int taking = phase == ADDRESS || phase == DATA;
 
-    if (phase >= PHASES || yes > 1)
+    if (phase >= PHASES)
         return 0;
     enter(m, phase);
     m->count = count;
     m->byte = byte;
-    if (phase == DATA)
-        m->held = yes;
-    else if (phase == HELD_BEFORE)
-        m->refused = yes;
-    else if (phase == SLOT)
-        m->pulling = yes;
-    else if (yes)
+    if (!decode_part(m, image[AT_PART]))
         return 0;
     if (taking)
         return count <= 8 && (byte >> count) == 0 && !(m->held && count > 0);
@@ -580,7 +598,7 @@ static void encode(const module *m, uint8_t *image)
     image[AT_PHASE] = m->phase;
     image[AT_COUNT] = m->count;
     image[AT_BYTE] = m->byte;
-    image[AT_YES] = (uint8_t)(m->held | m->refused | m->pulling);
+    image[AT_PART] = (uint8_t)(m->held | m->refused | m->slot);
     image[AT_WIRE] = m->wire;
     image[AT_MARK] = m->mark;
     image[AT_N] = (uint8_t)(m->n & 0xFF);
@@ -764,7 +782,7 @@ second_view second_look(const uint8_t *state, size_t state_length)
     v.phase = m.phase;
     v.bits = m.count;
     v.byte = m.byte;
-    v.refused = m.refused;
+    v.refused = m.refused || m.slot == REFUSED;
     v.wire = m.wire;
     v.mark = m.mark;
     v.due = m.due;
