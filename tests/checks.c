@@ -155,8 +155,8 @@ static void bench_addresses(void)
     expect(!acknowledged(CON2, 0x81, 0x01), "P7 01");
 }
 
-/* P8 and P9: overflow, with SSPIF at the ninth fall. */
-static void bench_overflow(void)
+/* A message whose address was taken and not read, so that the next byte is refused; SEN is 0 and SSPIF cleared. */
+static void unread(unsigned con2, unsigned con3)
 {
     fresh(0x30, 32);
     put(CON2, 0x00);
@@ -164,6 +164,14 @@ static void bench_overflow(void)
     bits(0x30);
     items("131");
     put(FLAG, 0x00);
+    put(CON2, (uint8_t)con2);
+    put(CON3, (uint8_t)con3);
+}
+
+/* P8 and P9: overflow, with SSPIF at the ninth fall. */
+static void bench_overflow(void)
+{
+    unread(0x00, 0x00);
     bits(0x55);
     expect((reg(CON1) & SSPOV) && reg(BUF) == 0x30 && !now().sda_pulled, "P8");
     items("131");
@@ -447,19 +455,6 @@ static void whole_bytes(void)
         whole_byte(DOOR_DATA, 0x44, stat, con1, con2, con3);
         whole_byte(DOOR_DATA, 0x45, stat | DA, con1, con2, con3);
     }
-}
-
-/* A message whose address was taken and not read, so that the next byte is refused; SEN is 0 and SSPIF cleared. */
-static void unread(unsigned con2, unsigned con3)
-{
-    fresh(0x30, 32);
-    put(CON2, 0x00);
-    items("320");
-    bits(0x30);
-    items("131");
-    put(FLAG, 0x00);
-    put(CON2, (uint8_t)con2);
-    put(CON3, (uint8_t)con3);
 }
 
 /* A data byte refused in a hold, with SSPIF for the first time. */
