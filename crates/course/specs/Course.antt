@@ -7,7 +7,7 @@ use Rattle.wire.specs.declared.Bits.{Bits}
 use Rattle.wire.specs.declared.Remembered.{Remembered}
 use Rattle.wire.specs.declared.Remembered.the-variants.{Wire}
 use Rattle.wire.specs.Byte.{bit, none, pushed}
-use Rattle.address.specs.Match.{matching}
+use Rattle.address.specs.Comparison.{hitOf, isTaken}
 use Rattle.mssp.specs.declared.Config.{Config}
 use Rattle.mssp.specs.declared.Live.{Live}
 use Rattle.mssp.specs.declared.SlotCase.the-variants.{Pulls}
@@ -27,13 +27,13 @@ use Rattle.plain.specs.declared.Turn.{Turn}
 use Rattle.plain.specs.declared.Turn.the-variants.{Off, Writing, Reading}
 use Rattle.plain.specs.Device.{own}
 
--- Enabled, with a hold after each acknowledged byte and none before; what matches is the own address.
+-- Enabled, with a hold after each acknowledged byte and none before; what is taken is the own address.
 pub record AnswersAlone (add : ℕ) (c : Config) : Type 0 where
   pub enabled : c .sspen ≡ true
   pub held-after : c .sen ≡ true
   pub address-not-held : c .ahen ≡ false
   pub data-not-held : c .dhen ≡ false
-  pub own-alone : (byte : ℕ) → matching (c .add) (c .msk) (c .gcen) byte ≡ own add byte
+  pub own-alone : (byte : ℕ) → isTaken (hitOf c byte) ≡ own add byte
 
 -- ---- the courses: the clock is free in some kind of turn, or held until the handler has done its task
 pub data Kind : Type 0 where

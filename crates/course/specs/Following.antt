@@ -1,6 +1,6 @@
 -- Every sample keeps module and reader together, on the course that it leads to; and what the module pulls on each.
 use Prim.Native.Nat.{ℕ, _+_, _%_, _<_, pred}
-use mathlib.Core.Path.{_≡_, refl, sym, ap}
+use mathlib.Core.Path.{_≡_, refl, sym, ap, _∙_}
 use mathlib.Core.Bool.{Bool, true, false}
 use native.Mathlib.Omega.{arith}
 use lib.Dec.{ltb}
@@ -24,6 +24,7 @@ use Rattle.mssp.specs.Phases.{isRefused}
 use Rattle.mssp.specs.Drivers.{sclPulled, sdaPulled}
 use Rattle.sampling.specs.declared.Moved.{Moved}
 use Rattle.sampling.specs.Rules.{edgeStep, seenIf, seen, sampled}
+use Rattle.address.specs.Theorems.{taken-by-test}
 use Rattle.reader.specs.declared.Ninth.the-variants.{Waiting, Got}
 use Rattle.reader.specs.declared.Place.{Place}
 use Rattle.reader.specs.declared.Heard.the-variants.{Silence}
@@ -40,7 +41,7 @@ setup-answers add =
       held-after = refl;
       address-not-held = refl;
       data-not-held = refl;
-      own-alone = λ byte. or-false (own add byte);
+      own-alone = λ byte. taken-by-test (own add byte) false ∙ or-false (own add byte);
     }
 
 -- ---- which edge a change of the wire can be

@@ -17,7 +17,7 @@ use Rattle.wire.specs.declared.Edge.the-variants.{Still, Start, Stop, Rise, Fal
 use Rattle.wire.specs.Byte.{bit, none, pushed, whole}
 use Rattle.wire.specs.Wire.{condition, edgeFrom, isStart}
 use Rattle.wire.specs.Laws.{one}
-use Rattle.address.specs.Match.{matching}
+use Rattle.address.specs.Comparison.{hitOf, isTaken}
 use Rattle.mssp.specs.declared.Config.{Config}
 use Rattle.mssp.specs.declared.Live.{Live}
 use Rattle.mssp.specs.declared.SlotCase.the-variants.{Pulls, Refuses, Declines}
@@ -78,7 +78,7 @@ address-settled c l byte true = intake-settled c (setDA false (setRW (bit 0 byte
 address-settled c l byte false = record { parts = tt; short = tt; hold = tt; start = refl; stop = refl }
 
 address-fall-settled : (c : Config) (l : Live) (bits : Bits) (t : Bool) → whole bits ≡ t → T (bitsFit bits) → Settled l (addressFallIf t c l bits)
-address-fall-settled c l bits true e h = address-settled c l (bits .value) (matching (c .add) (c .msk) (c .gcen) (bits .value))
+address-fall-settled c l bits true e h = address-settled c l (bits .value) (isTaken (hitOf c (bits .value)))
 address-fall-settled c l bits false e h = record { parts = h; short = rw e tt; hold = tt; start = refl; stop = refl }
 
 data-fall-settled :

@@ -7,7 +7,7 @@ use Rattle.wire.specs.declared.Edge.{Edge}
 use Rattle.wire.specs.declared.Edge.the-variants.{Still, Start, Stop, Rise, Fall}
 use Rattle.wire.specs.Byte.{bit, none, pushed, whole}
 use Rattle.wire.specs.Wire.{edgeOf, lineAfter, onWire}
-use Rattle.address.specs.Match.{matching}
+use Rattle.address.specs.Comparison.{hitOf, isTaken}
 use Rattle.mssp.specs.declared.Config.{Config}
 use Rattle.mssp.specs.declared.Live.{Live}
 use Rattle.mssp.specs.declared.SlotCase.{SlotCase}
@@ -50,7 +50,7 @@ addressIf true c l byte = intake c (setDA false (setRW (bit 0 byte) l)) byte (c 
 addressIf false c l byte = l at Quiet
 
 abbrev pub addressByte : Config → Live → ℕ → Moved
-addressByte c l byte = addressIf (matching (c .add) (c .msk) (c .gcen) byte) c l byte
+addressByte c l byte = addressIf (isTaken (hitOf c byte)) c l byte
 
 -- Data, at its eighth fall: D/A 1, then intake.
 abbrev pub dataByte : Config → Live → ℕ → Moved

@@ -68,7 +68,7 @@ fn take_in(c: Config, l: Live, byte: u8, hold: bool) -> Moved
 fn address_byte(c: Config, l: Live, byte: u8) -> Moved
     ensures { λ r. ⌜ r ≡ addressByte c l byte ⌝ }
 {
-    if address::matches(c.add, c.msk, c.gcen, byte) {
+    if address::is_taken(address::compare(c, byte)) {
         let mut n = l;
         n.da = false;
         n.rw = byte / 1 % 2 == 1;
