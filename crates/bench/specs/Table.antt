@@ -1,4 +1,4 @@
--- The bench examples P1 to P12 (01, "Bench examples"; 02, 4), one table and one statement over the definitions that the code is
+-- The bench examples P1 to P12 (01, "Bench examples"; 02, 1 and 4), one table and one statement over the definitions that the code is
 -- proved against: items played by `afterAll`.
 use Prim.Native.Nat.{ℕ, zero, suc, _+_, _/_, _%_, _^_}
 use mathlib.Core.Bool.{Bool, true, false, _&&_, not}
@@ -9,6 +9,9 @@ use Rattle.mssp.specs.declared.Live.{Live}
 use Rattle.mssp.specs.Module.{setup}
 use Rattle.mssp.specs.Phases.{bitsOf, isQuiet, isSending}
 use Rattle.mssp.specs.Drivers.{sdaPulled}
+use Rattle.address.specs.declared.Hit.{Hit}
+use Rattle.address.specs.declared.Hit.the-variants.{None, Own, GeneralCall}
+use Rattle.address.specs.Comparison.{hitNumber, hitOf}
 use Rattle.firmware.specs.Handler.{Served, served, stateOf, handlerOf}
 use Rattle.steps.specs.declared.Item.{Item}
 use Rattle.steps.specs.declared.Item.the-variants.{Call, Read, Write}
@@ -87,6 +90,10 @@ pulls w = sdaPulled (w .state .mssp .phase)
 abbrev pub quiet : Served → Bool
 quiet w = isQuiet (w .state .mssp .phase)
 
+-- Which address a first byte hits, by the registers as they are.
+abbrev pub hits : Hit → ℕ → Served → Bool
+hits which v w = eqb (hitNumber (hitOf (w .state .mssp .config) v)) (hitNumber which)
+
 abbrev pub pointer : ℕ → Served → Bool
 pointer p w = eqb (w .state .handler .pointer) p
 
@@ -122,12 +129,12 @@ table =
     ∷ case memory32 (trace (3 ∷ 0 ∷ [])) (λ w. not (flag (λ l. l .s) w))
     -- P5
     ∷ case memory32 workedItems (λ w. pointer 0 w && flag (λ l. l .p) w && not (flag (λ l. l .bf) w))
-    -- P6: MSK F0
-    ∷ case memory32 (Write 6 0xF0 ∷ opening 0x3E) (λ w. pulls w)
-    ∷ case memory32 (Write 6 0xF0 ∷ opening 0x40) (λ w. quiet w)
-    -- P7: GCEN 1
-    ∷ case memory32 (Write 3 0x81 ∷ opening 0x00) (λ w. pulls w)
-    ∷ case memory32 (Write 3 0x81 ∷ opening 0x01) (λ w. quiet w)
+    -- P6: MSK F0; own, none
+    ∷ case memory32 (Write 6 0xF0 ∷ opening 0x3E) (λ w. hits Own 0x3E w && pulls w)
+    ∷ case memory32 (Write 6 0xF0 ∷ opening 0x40) (λ w. hits None 0x40 w && quiet w)
+    -- P7: GCEN 1; general call, none
+    ∷ case memory32 (Write 3 0x81 ∷ opening 0x00) (λ w. hits GeneralCall 0x00 w && pulls w)
+    ∷ case memory32 (Write 3 0x81 ∷ opening 0x01) (λ w. hits None 0x01 w && quiet w)
     -- P8: BF 1 at a data byte; P9: BF read away, SSPOV still 1. SSPIF is 0 after the eighth fall, 1 after the ninth
     ∷ case memory32 overflow (λ w. flag (λ l. l .sspov) w && buf 0x30 w && not (pulls w) && not (flag (λ l. l .sspif) w))
     ∷ case memory32 (overflow ++ ninth 1) (λ w. flag (λ l. l .sspif) w && quiet w)
