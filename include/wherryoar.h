@@ -59,13 +59,18 @@ extern "C" {
 #define WHERRYOAR_SENDING 6
 #define WHERRYOAR_MASTER_ACKNOWLEDGE 7
 
+/* Which address a first byte hits. */
+#define WHERRYOAR_NO_HIT 0          /* none: the module takes no part in the message */
+#define WHERRYOAR_OWN_HIT 1         /* its own: the byte fits ADD under MSK; 00 too, where it fits */
+#define WHERRYOAR_GENERAL_CALL 2    /* the general call: 00 where GCEN is 1, and it does not fit */
+
 /* An item of a trace: a level 0 to 3 (2 * SCL + SDA) is a sample, this one a handler call. */
 #define WHERRYOAR_CALL_ITEM 4
 
 /* What a call answers. */
 typedef struct {
     uint32_t refusal;   /* 0: done */
-    uint32_t value;     /* read: the register's byte; else 0, and 0 after a refusal */
+    uint32_t value;     /* read: the register's byte; hit: which address, 0 to 2; else 0, and 0 after a refusal */
     uint64_t item;      /* refusal 4 of a run: the number of the first bad item; else 0 */
 } wherryoar_answer;
 
@@ -129,6 +134,15 @@ wherryoar_answer wherryoar_run(uint8_t *state, size_t state_length, uint8_t *buf
 
 /* What the scope draws of a state; changes nothing. Refuses with 6 (no state's image). */
 wherryoar_view wherryoar_look(const uint8_t *state, size_t state_length);
+
+/* Which address a first byte after a Start hits by this state's registers, whether the module is enabled or not: value is 0
+   none, 1 own, 2 general call, as above. It fits where it has ADD's bit in each of bits 7..1 whose MSK bit is 1; bit 0 is R/W,
+   and bit 0 of ADD and of MSK plays no part. Own comes before general call, and 01 is no general call. An enabled module takes
+   the byte in, at the fall after its eighth bit, exactly where this says own or general call, and both in the same way: what it
+   shows afterwards does not tell which. To label an address on screen, ask with the byte that wherryoar_look shows in
+   WHERRYOAR_ADDRESS with 8 bits, before that fall.
+   Changes nothing. Refuses with 6 (no state's image). */
+wherryoar_answer wherryoar_hit(const uint8_t *state, size_t state_length, uint8_t byte);
 
 /* The message that an item of a wire record lies in, as a part of that record: from its Start up to its Stop (included), the
    next Start (excluded) or the end; an item in no message gives the empty part at it. The record holds wire levels 0 to 3.

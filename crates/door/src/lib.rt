@@ -3,7 +3,7 @@
 ghost use mathlib.Core.Path.{_≡_};
 ghost use Rattle.settling.specs.Outcome.{outcome, lent};
 ghost use Rattle.firmware_calls.specs.Calls.{doorSetup, doorCall, doorRun};
-ghost use Rattle.module_calls.specs.Calls.{doorRead, doorWrite, doorSample, doorLook};
+ghost use Rattle.module_calls.specs.Calls.{doorRead, doorWrite, doorSample, doorLook, doorHit};
 ghost use Rattle.door.specs.Door.{doorFind};
 use settling::Answer;
 use view::View;
@@ -77,6 +77,14 @@ pub extern "C" fn wherryoar_look(state: &[u8]) -> View
     ensures { λ r. ⌜ r ≡ doorLook (now (state .entry)) ⌝ }
 {
     module_calls::look(state)
+}
+
+// Says which address a first byte hits by this state's registers: 0 none, 1 own, 2 general call. Refuses with 6.
+#[no_mangle]
+pub extern "C" fn wherryoar_hit(state: &[u8], byte: u8) -> Answer
+    ensures { λ r. ⌜ r ≡ doorHit (now (state .entry)) byte ⌝ }
+{
+    module_calls::hit(state, byte)
 }
 
 // Finds the message that an item of a wire record lies in. Refuses with 4 (a level above 3), 7 (no such item).

@@ -1,12 +1,14 @@
--- What a read, a write, a sample and a look answer and leave, for every input (01, "Calls, refusals and their order").
+-- What a read, a write, a sample, a look and a question which address hits answer and leave, for every input (01, "Calls,
+-- refusals and their order"; 02, 1).
 use Prim.Native.Nat.{ℕ}
 use mathlib.Core.Bool.{cond}
 use mathlib.Core.List.{List}
 use lib.Dec.{ltb}
-use Rattle.refusals.specs.declared.Refusal.the-variants.{NoItem}
+use Rattle.refusals.specs.declared.Refusal.the-variants.{NoState, NoItem}
 use Rattle.refusals.specs.declared.Verdict.{Verdict}
 use Rattle.refusals.specs.declared.Verdict.the-variants.{Done, Refused}
 use Rattle.mssp.specs.declared.Module.{Module}
+use Rattle.address.specs.Comparison.{hitNumber, hitOf}
 use Rattle.registers.specs.Values.{readOf}
 use Rattle.writes.specs.Writes.{writeOf}
 use Rattle.firmware.specs.declared.State.{State}
@@ -15,7 +17,8 @@ use Rattle.trace.specs.Run.{sampledBy}
 use Rattle.view.specs.declared.View.{View}
 use Rattle.view.specs.View.{viewOf, noView}
 use Rattle.image.specs.Image.{encodeOf, decodeOf}
-use Rattle.settling.specs.Outcome.{Outcome, settled, noState, byState, byAccess}
+use Rattle.settling.specs.declared.Answer.{Answer}
+use Rattle.settling.specs.Outcome.{Outcome, done, refused, settled, noState, byState, byAccess}
 
 -- ---- register access: only the module is reached
 abbrev pub moduleIn : State → Module
@@ -42,3 +45,7 @@ doorSample bytes level =
 -- ---- what the scope draws: nothing changes
 abbrev pub doorLook : List ℕ → View
 doorLook bytes = byState (decodeOf bytes) noView viewOf
+
+-- ---- which address a first byte hits, by the registers of an enabled module or of one that is not: nothing changes
+abbrev pub doorHit : List ℕ → ℕ → Answer
+doorHit bytes byte = byState (decodeOf bytes) (refused NoState 0) (λ s. done (hitNumber (hitOf (s .mssp .config) byte)))

@@ -1,8 +1,9 @@
-// The calls on the bytes of a state that see its module alone, whatever its handler does: a read, a write, a sample, a look.
+// The calls on the bytes of a state that see its module alone, whatever its handler does: a read, a write, a sample, a look,
+// a question which address hits.
 // Refusals are looked at in the paper's order, and a refused call changes no byte.
 ghost use mathlib.Core.Path.{_≡_};
 ghost use Rattle.settling.specs.Outcome.{outcome, imageOver, settledAccess};
-ghost use Rattle.module_calls.specs.Calls.{imageWith, doorRead, doorWrite, doorSample, doorLook};
+ghost use Rattle.module_calls.specs.Calls.{imageWith, doorRead, doorWrite, doorSample, doorLook, doorHit};
 use firmware::State;
 use image::Decoded;
 use refusals::Refusal;
@@ -65,5 +66,23 @@ pub fn look(state: &[u8]) -> View
     match image::decode(state) {
         Decoded::NoImage => view::no_view(),
         Decoded::Image(s) => view::draw(s),
+    }
+}
+
+// Which address a first byte hits by the state's registers; changes nothing. Refuses with 6.
+pub fn hit(state: &[u8], byte: u8) -> Answer
+    ensures { λ r. ⌜ r ≡ doorHit (now (state .entry)) byte ⌝ }
+{
+    match image::decode(state) {
+        Decoded::NoImage => settling::no_state(),
+        Decoded::Image(s) => {
+            let m = s.mssp;
+            let which = address::compare(m.config, byte);
+            Answer {
+                refusal: 0,
+                value: address::number(which) as u32,
+                item: 0,
+            }
+        }
     }
 }
