@@ -1,6 +1,6 @@
 -- The words of the demands: a host's call, what it answers and leaves at the door and by the definitions, and the causes of each
--- refusal (01, "Calls, refusals and their order"; 02, 6).
-use Prim.Native.Nat.{ℕ, _+_, _/_, _%_, _<_, _≤_}
+-- refusal (01, "Calls, refusals and their order"; 02, 1 and 6).
+use Prim.Native.Nat.{ℕ, _+_, _/_, _%_, _^_, _<_, _≤_}
 use mathlib.Core.Logic.{_⊎_, _↔_}
 use mathlib.Core.Path.{_≡_}
 use mathlib.Core.Bool.{Bool, true, false, cond}
@@ -15,6 +15,8 @@ use Rattle.refusals.specs.declared.Verdict.the-variants.{Done, Refused}
 use Rattle.refusals.specs.Numbers.{numberOf}
 use Rattle.wire.specs.Byte.{bit}
 use Rattle.mssp.specs.declared.Module.{Module}
+use Rattle.address.specs.declared.Hit.the-variants.{None, Own, GeneralCall}
+use Rattle.address.specs.Comparison.{hitNumber}
 use Rattle.registers.specs.Values.{readOf}
 use Rattle.writes.specs.Writes.{writeOf}
 use Rattle.firmware.specs.declared.State.{State}
@@ -175,6 +177,7 @@ causes h (callHandler start n) = (NoState when ImageOfNone (h .state)) ∷ (NoWi
 causes h (runTrace start n items) =
     (NoState when ImageOfNone (h .state)) ∷ (NoWindow when FitsNot h start n) ∷ (NoItem when SomeAbove 4 items) ∷ []
 
+-- Why a look, and a question which address hits, is refused.
 abbrev pub lookCauses : List ℕ → List Cause
 lookCauses bytes = (NoState when ImageOfNone bytes) ∷ []
 
@@ -209,6 +212,23 @@ abbrev pub StaysEnabled : Host → List DoorCall → Type 0
 StaysEnabled h [] = bit 5 (shownCON1 h) ≡ true
 StaysEnabled h (c ∷ calls) =
     (bit 5 (shownCON1 h) ≡ true) × ((add n : ℕ) → c ≡ setUp add n → ⊥) × StaysEnabled (atDoor h c .left) calls
+
+-- ---- which address hit (01, "From levels to bytes", Address; 02, 1)
+-- The byte agrees with ADD in bit i if its MSK bit is 1; it fits if it does so in each of bits 7 to 1.
+abbrev pub AgreesIn : ℕ → ℕ → ℕ → ℕ → Type 0
+AgreesIn i add msk byte = bit i msk ≡ true → byte / 2 ^ i % 2 ≡ add / 2 ^ i % 2
+
+abbrev pub Fits : ℕ → ℕ → ℕ → Type 0
+Fits add msk byte =
+    AgreesIn 1 add msk byte × AgreesIn 2 add msk byte × AgreesIn 3 add msk byte × AgreesIn 4 add msk byte
+    × AgreesIn 5 add msk byte × AgreesIn 6 add msk byte × AgreesIn 7 add msk byte
+
+-- An address of eight bits has met a fall: the phase after it, by number, and which address the comparison says it hits. It is
+-- quiet (0) and none; or the byte was taken in, with a hold before its acknowledge (3) or its slot (4), and own or general call.
+abbrev pub TakenAsSaid : ℕ → ℕ → Type 0
+TakenAsSaid after says =
+    ((after ≡ 0) × (says ≡ hitNumber None))
+    ⊎ (((after ≡ 3) ⊎ (after ≡ 4)) × ((says ≡ hitNumber Own) ⊎ (says ≡ hitNumber GeneralCall)))
 
 -- ---- a trace through the door
 -- Every byte is an item.

@@ -18,6 +18,8 @@ use Rattle.refusals.specs.declared.Verdict.{Verdict}
 use Rattle.refusals.specs.Numbers.{numberOf, firstCause}
 use Rattle.wire.specs.Byte.{bit}
 use Rattle.mssp.specs.Module.{modelled, setup}
+use Rattle.address.specs.declared.Hit.{Hit}
+use Rattle.address.specs.Comparison.{hitNumber, hitOf}
 use Rattle.register_bytes.specs.Bytes.{byteOf, sspmOf}
 use Rattle.register_bytes.specs.Bits.{small, half-back}
 use Rattle.registers.specs.declared.Register.{Register}
@@ -44,12 +46,14 @@ use Rattle.finder.specs.Messages.{liesAt, endAt}
 use Rattle.finder.specs.Find.{firstBadLevel, partFrom, spanIf, spanOf}
 use Rattle.image.specs.Image.{imageLength, decodeOf}
 use Rattle.image.specs.Theorems.{encode-injective}
+use Rattle.view.specs.declared.View.{View}
+use Rattle.view.specs.View.{viewOf, noView}
 use Rattle.settling.specs.declared.Answer.{Answer}
-use Rattle.settling.specs.Outcome.{refused, byState}
-use Rattle.settling.specs.Theorems.{one-lent}
+use Rattle.settling.specs.Outcome.{done, refused, byState}
+use Rattle.settling.specs.Theorems.{one-lent, by-state}
 use Rattle.firmware_calls.specs.Calls.{setupIf}
 use Rattle.firmware_calls.specs.Theorems.{setup-keeps, call-keeps, run-keeps}
-use Rattle.module_calls.specs.Calls.{levelVerdict, doorLook}
+use Rattle.module_calls.specs.Calls.{levelVerdict, doorHit}
 use Rattle.module_calls.specs.Theorems.{read-keeps, write-keeps, sample-keeps}
 use Rattle.door.specs.declared.Part.{Part as Parted}
 use Rattle.door.specs.Door.{doorFind}
@@ -73,8 +77,17 @@ empty-part : (found : Found) → 0 < refusalOf found → (startOf found ≡ 0) �
 empty-part (Part start count) l = absurd (omega arith)
 empty-part (NotFound why item) l = (refl, refl)
 
+-- What holds of every answer to a question which address hits, by the bytes' being no state's image or one's.
+by-hit :
+    (P : Answer → Type 0) (bytes : List ℕ) (byte : ℕ) → P (refused NoState 0) → ((hit : Hit) → P (done (hitNumber hit))) → P (doorHit bytes byte)
+by-hit P bytes byte p q = by-state P (decodeOf bytes) (refused NoState 0) _ p (λ s e. q (hitOf (s .mssp .config) byte))
+
 pub refused-keeps : RefusedKeeps
-refused-keeps = (keeps, λ levels item. empty-part (spanOf levels item))
+refused-keeps = (
+  keeps,
+  λ levels item. empty-part (spanOf levels item),
+  λ bytes byte. by-hit (λ a. 0 < a .refusal → a .value ≡ 0) bytes byte (λ l. refl) (λ hit l. absurd (omega arith)),
+)
 
 -- ---- outside the window
 outside-if :
@@ -146,16 +159,16 @@ no-item number other = (λ e. absurd (other e), λ e. refl)
 not-equal : (a b : ℕ) → (not (eqb a b) ≡ true) ↔ (a ≡ b → ⊥)
 not-equal a b = (λ t. eqb-false a b (not-true (eqb a b) t), λ other. rw (ne-eqb a b other))
 
-equal : (a b : ℕ) → (eqb a b ≡ true) ↔ (a ≡ b)
+pub equal : (a b : ℕ) → (eqb a b ≡ true) ↔ (a ≡ b)
 equal a b = (eqb-true a b, eq-eqb a b)
 
 below : (a b : ℕ) → (ltb a b ≡ true) ↔ (a < b)
 below a b = (ltb-true a b, lt-ltb a b)
 
-both : {A B : Type 0} (a b : Bool) → (a ≡ true) ↔ A → (b ≡ true) ↔ B → (a && b ≡ true) ↔ (A × B)
+pub both : {A B : Type 0} (a b : Bool) → (a ≡ true) ↔ A → (b ≡ true) ↔ B → (a && b ≡ true) ↔ (A × B)
 both a b f g = (λ t. (f .0 (and-first a b t), g .0 (and-second a b t)), λ k. rw (f .1 (k .0)) (g .1 (k .1)))
 
-is-one : (b : Bool) → (b ≡ true) ↔ (b ≡ true)
+pub is-one : (b : Bool) → (b ≡ true) ↔ (b ≡ true)
 is-one b = (λ t. t, λ t. t)
 
 n-outside : (n : ℕ) → (not (isWindowLength n) ≡ true) ↔ ((n ≡ 0) ⊎ (longestWindow < n))
@@ -346,10 +359,14 @@ module _ (h : Host) where
       let bad : Bool = ltb (firstBad items) (length items) in
       window-looks w start n (firstBad items) (map itemAt items) (hasWindow w start n) bad (fits-not h start n s image) (above-looks 4 items bad refl (λ no. none)))
 
-look-looks : (bytes : List ℕ) → FirstOf (λ item. ⊥) (lookCauses bytes) (doorLook bytes .refusal) 0
+-- A look and a hit: 6 where there is no state, else nothing is refused.
+look-looks :
+    {A : Type 0} (refusal : A → ℕ) (nothing : A) (work : State → A) (bytes : List ℕ) → refusal nothing ≡ 6 → ((s : State) → refusal (work s) ≡ 0)
+    → FirstOf (λ item. ⊥) (lookCauses bytes) (refusal (byState (decodeOf bytes) nothing work)) 0
 unfolding byState
-look-looks bytes =
-    ⊎-elim (λ k. rw (k .0) (here (k .1) (no-item 6 (λ e. omega arith)))) (λ k. rw (k .1) (later (λ (nobody : ImageOfNone bytes). nobody (k .0) (k .2)) none))
+look-looks refusal nothing work bytes six zero =
+    ⊎-elim (λ k. rw (k .0, six) (here (k .1) (no-item 6 (λ e. omega arith))))
+    (λ k. rw (k .1, zero (k .0)) (later (λ (nobody : ImageOfNone bytes). nobody (k .0) (k .2)) none))
     (image-or-none bytes)
 
 part-looks :
@@ -374,10 +391,19 @@ unfolding spanOf
 found-looks levels item = find-looks levels item (ltb (firstBadLevel levels) (length levels)) (ltb item (length levels)) refl refl
 
 pub exact-causes : ExactCauses
-exact-causes = (λ h c. numbers (looked h c), λ bytes. numbers (look-looks bytes), λ levels item. numbers (found-looks levels item))
+exact-causes = (
+  λ h c. numbers (looked h c),
+  λ bytes. numbers (look-looks (λ (v : View). v .refusal) noView viewOf bytes refl (λ s. refl)),
+  λ bytes byte. numbers (look-looks (λ (a : Answer). a .refusal) (refused NoState 0) (λ s. done (hitNumber (hitOf (s .mssp .config) byte))) bytes refl (λ s. refl)),
+  λ levels item. numbers (found-looks levels item),
+)
 
 pub item-beside : ItemBeside
-item-beside = (λ h c. beside (looked h c), λ levels item. beside (found-looks levels item))
+item-beside = (
+  λ h c. beside (looked h c),
+  λ levels item. beside (found-looks levels item),
+  λ bytes byte. by-hit (λ a. a .item ≡ 0) bytes byte refl (λ hit. refl),
+)
 
 pub demand-one : DemandOne
 demand-one = (one-reply, refused-keeps, outside-the-window, exact-causes, item-beside)

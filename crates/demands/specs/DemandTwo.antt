@@ -16,6 +16,7 @@ use Rattle.refusals.specs.declared.Verdict.the-variants.{Done, Refused}
 use Rattle.refusals.specs.Numbers.{accepted}
 use Rattle.wire.specs.Byte.{bit}
 use Rattle.mssp.specs.declared.Module.{Module}
+use Rattle.address.specs.Comparison.{hitNumber, hitOf}
 use Rattle.register_bytes.specs.Bytes.{con1Of, sspmOf}
 use Rattle.register_bytes.specs.Bits.{bits-back, packed-half}
 use Rattle.registers.specs.declared.Access.{Access}
@@ -38,12 +39,12 @@ use Rattle.image.specs.Theorems.{decode-encode, decode-exactly, encode-injectiv
 use Rattle.view.specs.declared.View.{View}
 use Rattle.view.specs.View.{viewOf, noView}
 use Rattle.settling.specs.declared.Answer.{Answer}
-use Rattle.settling.specs.Outcome.{Outcome, Lent, lent, refused, settled, settledAccess, noState, byState, byAccess}
+use Rattle.settling.specs.Outcome.{Outcome, Lent, lent, done, refused, settled, settledAccess, noState, byState, byAccess}
 use Rattle.settling.specs.Left.{ImageOfSome}
 use Rattle.settling.specs.Theorems.{stays}
 use Rattle.firmware_calls.specs.Calls.{setupIf, doorSetup, settledWork}
 use Rattle.firmware_calls.specs.Theorems.{setup-keeps}
-use Rattle.module_calls.specs.Calls.{moduleIn, imageWith, levelVerdict, doorLook}
+use Rattle.module_calls.specs.Calls.{moduleIn, imageWith, levelVerdict, doorLook, doorHit}
 use Rattle.doorkept.specs.Image.{setup-leaves, read-stays, write-stays, sample-stays, call-stays, run-stays}
 use Rattle.demands.specs.Calls.{DoorCall, setUp, readRegister, writeRegister, feedSample, callHandler, runTrace, Host, host, Reply, reply, answers, leftAfter, atDoor, told, inWindow, madeOf, byDefinition, ImageOf, ImageOfNone, shownCON1}
 use Rattle.demands.specs.Demands.{DemandTwo}
@@ -67,9 +68,14 @@ pub on-state :
 unfolding byState
 on-state nothing work s v = rw (decode-encode s v)
 
--- What a look shows is the state.
+-- What a look shows is the state, and what a hit says is by its registers.
 pub look-is : (s : State) (h : Host) → ImageOf s (h .state) → doorLook (h .state) ≡ viewOf s
 look-is s h image = subst (λ (b : List ℕ). doorLook b ≡ viewOf s) (image .0) (on-state noView viewOf s (image .1))
+
+pub hit-is : (s : State) (h : Host) → ImageOf s (h .state) → (byte : ℕ) → doorHit (h .state) byte ≡ done (hitNumber (hitOf (s .mssp .config) byte))
+hit-is s h image byte =
+    let said : State → Answer = λ t. done (hitNumber (hitOf (t .mssp .config) byte)) in
+    subst (λ (b : List ℕ). doorHit b byte ≡ said s) (image .0) (on-state (refused NoState 0) said s (image .1))
 
 -- SSPEN and SSPM as a look shows them are the state's.
 pub shown-is :
@@ -225,5 +231,6 @@ demand-two s h calls image =
       k .answered,
       (ap (λ (x : Host). x .state) (sym (k .left)), k .valid),
       ap (λ (x : Host). x .buffer) (k .left),
-      rw (k .left) (on-state noView viewOf (leftAfter byDefinition w calls .state) (k .valid)),
+      rw (k .left) (look-is (leftAfter byDefinition w calls .state) (imageHost (leftAfter byDefinition w calls)) (refl, k .valid)),
+      rw (k .left) (hit-is (leftAfter byDefinition w calls .state) (imageHost (leftAfter byDefinition w calls)) (refl, k .valid)),
     )

@@ -1,10 +1,15 @@
--- The demands, said of the functions that C calls: wherryoar_setup, read, write, sample, call and run, look and find. Statements
--- alone: their words are in Calls.antt, their proofs in the other files.
+-- The demands, said of the functions that C calls: wherryoar_setup, read, write, sample, call and run, look, hit and find.
+-- Statements alone: their words are in Calls.antt, their proofs in the other files.
 use Prim.Native.Nat.{ℕ, _+_, _%_, _<_, _≤_}
+use mathlib.Core.Logic.{_⊎_, _↔_}
 use mathlib.Core.Path.{_≡_}
+use mathlib.Core.Bool.{true}
 use mathlib.Core.List.{List, [], _∷_, map}
 use lib.ListN.{length}
 use Rattle.items.specs.First.{FirstAbove}
+use Rattle.wire.specs.Byte.{bit}
+use Rattle.address.specs.declared.Hit.the-variants.{None, Own, GeneralCall}
+use Rattle.address.specs.Comparison.{hitNumber, hitOf}
 use Rattle.memory.specs.Memory.{peeked}
 use Rattle.firmware.specs.declared.State.{State}
 use Rattle.firmware.specs.Handler.{longestWindow, Served, served, stateOf, memoryIn, called}
@@ -13,26 +18,30 @@ use Rattle.trace.specs.Run.{itemAt}
 use Rattle.trace.specs.Window.{SameOutside}
 use Rattle.agreement.specs.Joint.{Joint, run, afresh, Agrees}
 use Rattle.image.specs.Image.{imageLength}
+use Rattle.view.specs.declared.View.{View}
 use Rattle.view.specs.View.{viewOf}
 use Rattle.settling.specs.declared.Answer.{Answer}
 use Rattle.settling.specs.Outcome.{done}
-use Rattle.module_calls.specs.Calls.{doorLook}
+use Rattle.module_calls.specs.Calls.{doorLook, doorHit}
 use Rattle.door.specs.declared.Part.{Part}
 use Rattle.door.specs.Door.{doorFind}
-use Rattle.demands.specs.Calls.{DoorCall, setUp, readRegister, callHandler, runTrace, Host, answers, leftAfter, Allows, atDoor, byDefinition, ImageOf, shownCON1, causes, lookCauses, findCauses, Exactly, OnlyBeside, Beside, StaysEnabled, AllItems, Feeds, ShowsNoneRefused, firmware}
+use Rattle.demands.specs.Calls.{DoorCall, setUp, readRegister, feedSample, callHandler, runTrace, Host, answers, leftAfter, Allows, atDoor, byDefinition, ImageOf, shownCON1, causes, lookCauses, findCauses, Exactly, OnlyBeside, Beside, StaysEnabled, Fits, TakenAsSaid, AllItems, Feeds, ShowsNoneRefused, firmware}
 
 -- ---- DEMAND 1: every call has one outcome, changes only what it may, and refuses by number, exactly for the causes of the table
--- Only one answer fits a call's contract, with one state and one buffer. (What look and find answer is an equation as it stands.)
+-- Only one answer fits a call's contract, with one state and one buffer. (What look, hit and find answer is an equation as it
+-- stands, and they are lent nothing to change.)
 abbrev pub OneOutcome : Type 0
 OneOutcome =
     (before : Host) (c : DoorCall) (r t : Answer) (a b : Host) → Allows before c r a → Allows before c t b → (r ≡ t) × (a ≡ b)
 
--- A refused call changes no byte of state or buffer, and a refused search hands back the empty part at 0.
+-- A refused call changes no byte of state or buffer, a refused search hands back the empty part at 0, and a refused question
+-- which address hits the value 0.
 abbrev pub RefusedKeeps : Type 0
 RefusedKeeps =
     ((h : Host) (c : DoorCall) → 0 < atDoor h c .answer .refusal → atDoor h c .left ≡ h)
     × ((levels : List ℕ) (item : ℕ) → let part : Part = doorFind levels item in
     0 < part .refusal → (part .start ≡ 0) × (part .length ≡ 0))
+    × ((bytes : List ℕ) (byte : ℕ) → 0 < doorHit bytes byte .refusal → doorHit bytes byte .value ≡ 0)
 
 -- A handler call and a run change no byte outside their window.
 abbrev pub OutsideKept : Type 0
@@ -46,6 +55,7 @@ abbrev pub ExactCauses : Type 0
 ExactCauses =
     ((h : Host) (c : DoorCall) → Exactly (atDoor h c .answer .refusal) (causes h c))
     × ((bytes : List ℕ) → Exactly (doorLook bytes .refusal) (lookCauses bytes))
+    × ((bytes : List ℕ) (byte : ℕ) → Exactly (doorHit bytes byte .refusal) (lookCauses bytes))
     × ((levels : List ℕ) (item : ℕ) → Exactly (doorFind levels item .refusal) (findCauses levels item))
 
 -- Beside refusal 4 of a run and of the finder stands the number of the first bad item, beside everything else 0.
@@ -55,13 +65,14 @@ ItemBeside =
     OnlyBeside (answer .refusal) (Beside c (answer .item)) (answer .item))
     × ((levels : List ℕ) (item : ℕ) → let part : Part = doorFind levels item in
     OnlyBeside (part .refusal) (FirstAbove 3 levels (part .item)) (part .item))
+    × ((bytes : List ℕ) (byte : ℕ) → doorHit bytes byte .item ≡ 0)
 
 abbrev pub DemandOne : Type 0
 DemandOne = OneOutcome × RefusedKeeps × OutsideKept × ExactCauses × ItemBeside
 
 -- ---- DEMAND 2: from any state's image, after every list of calls, refused ones among them, the answers are the definitions', the
--- bytes are the image of the state that the definitions give, the buffer is theirs, and look shows that state. It holds of
--- every list, so after each call of a list.
+-- bytes are the image of the state that the definitions give, the buffer is theirs, look shows that state, and hit says what the
+-- comparison says by its registers. It holds of every list, so after each call of a list.
 abbrev pub DemandTwo : Type 0
 DemandTwo =
     (s : State) (h : Host) (calls : List DoorCall) → ImageOf s (h .state)
@@ -72,6 +83,7 @@ DemandTwo =
     × ImageOf (defined .state) (after .state)
     × (after .buffer ≡ defined .bytes)
     × (doorLook (after .state) ≡ viewOf (defined .state))
+    × ((byte : ℕ) → doorHit (after .state) byte ≡ done (hitNumber (hitOf (defined .state .mssp .config) byte)))
 
 -- ---- DEMAND 3: for every ADD, every 48 bytes, every buffer, every window of 1 to 256 bytes inside it and every list of items 0 to
 -- 4: set up and fed through the door, in one run, in several or call by call, all is done; the bytes are the image of the joint
@@ -111,6 +123,26 @@ RunIsCalls =
 abbrev pub ModeStays : Type 0
 ModeStays =
     (h : Host) (calls : List DoorCall) → StaysEnabled h calls → shownCON1 (leftAfter atDoor h calls) % 16 ≡ shownCON1 h % 16
+
+-- ---- which address hit: by the registers that look shows, hit says own exactly where the byte fits ADD under MSK, and general call
+-- exactly for 00 where GCEN, bit 7 of CON2, is 1 and 00 does not fit; else it says none
+abbrev pub HitSays : Type 0
+HitSays =
+    (h : Host) (byte : ℕ) → doorHit (h .state) byte .refusal ≡ 0
+    → let shown : View = doorLook (h .state) in
+    let says : ℕ = doorHit (h .state) byte .value in
+    ((says ≡ hitNumber Own) ↔ Fits (shown .add) (shown .msk) byte)
+    × ((says ≡ hitNumber GeneralCall) ↔ ((byte ≡ 0) × (bit 7 (shown .con2) ≡ true) × (Fits (shown .add) (shown .msk) 0 → ⊥)))
+    × ((says ≡ hitNumber None) ⊎ (says ≡ hitNumber Own) ⊎ (says ≡ hitNumber GeneralCall))
+
+-- ---- the module takes an address exactly where that says own or general call: where look shows an address (phase 1) of eight
+-- bits, at the sample with SCL low
+abbrev pub TakesWhatHits : Type 0
+TakesWhatHits =
+    (h : Host) (level : ℕ) → level ≤ 1
+    → let shown : View = doorLook (h .state) in
+    shown .phase ≡ 1 → shown .bits ≡ 8
+    → TakenAsSaid (doorLook (atDoor h (feedSample level) .left .state) .phase) (doorHit (h .state) (shown .byte) .value)
 
 -- ---- after an accepted setup look shows, and reads give, CON1 36, CON2 01, CON3 00, MSK FF (hex) and ADD; the rest is as fresh
 abbrev pub SetupRegisters : Type 0

@@ -5,3 +5,4 @@ pub mod DemandOne
 pub mod DemandThree
 pub mod HandlerIsFirmware
 pub mod ModeStays
+pub mod WhichAddress
