@@ -1,10 +1,11 @@
--- The report's input (01, "Report program"): what each byte is, and the items that the bytes give.
+-- The report's input (01, "Report program"; 02, 1): what each byte is, and the items that the bytes give.
 use Prim.Native.Nat.{ℕ, suc, _-_}
 use Prim.Native.Char.{code}
 use mathlib.Core.Bool.{Bool, true, false, cond, _||_}
 use mathlib.Core.List.{List, [], _∷_}
 use lib.Dec.{eqb, ltb}
-use lib.ListN.{length}
+use mir.Val.{boolByte}
+use lib.ListN.{length, drop, getD}
 use Rattle.wire.specs.Wire.{sclOf, sdaOf}
 use Rattle.steps.specs.declared.Item.{Item}
 use Rattle.steps.specs.declared.Item.the-variants.{Sample, Call}
@@ -20,6 +21,13 @@ meaningOf byte =
     (cond (eqb byte (code "h")) (AnItem Call)
     (cond (ltb byte (code "0") || ltb (code "3") byte) Foreign
     (AnItem (Sample (sclOf (byte - code "0")) (sdaOf (byte - code "0"))))))
+
+-- A `g` as the very first byte asks for the general call. It is no item: the items are those of the bytes behind it.
+abbrev pub asksGeneral : List ℕ → Bool
+asksGeneral input = eqb (getD input 0 0) (code "g")
+
+abbrev pub itemBytes : List ℕ → List ℕ
+itemBytes input = drop (boolByte (asksGeneral input)) input
 
 -- All the items, or how many come before the first foreign byte.
 pub data Parsed : Type 0 where

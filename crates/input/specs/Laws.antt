@@ -1,4 +1,4 @@
--- Laws of the report's input that proofs cite: of its bytes one by one, and of the items found.
+-- Laws of the report's input that proofs cite: of what it asks for, of its bytes one by one, and of the items found.
 use Prim.Native.Nat.{ℕ, suc, _+_, _<_, _≤_}
 use mathlib.Core.Path.{_≡_, refl, sym, ap, _∙_}
 use mathlib.Core.Bool.{Bool, true, false, true≢false, _||_}
@@ -8,15 +8,26 @@ use native.Mathlib.Numerals.{add-one}
 use native.Mathlib.Nat.{add-zero}
 use lib.ListN.{length, drop, getD, drop-of-length-le}
 use lib.Seq.{drop-cons}
+use mir.Val.{boolByte}
+use Rattle.wire.specs.Laws.{one}
 use Rattle.input.specs.declared.Meaning.{Meaning}
 use Rattle.input.specs.declared.Meaning.the-variants.{Skipped, AnItem, Foreign}
 use Rattle.input.specs.declared.Checked.{Checked}
 use Rattle.input.specs.declared.Checked.the-variants.{Whole, Cut}
-use Rattle.input.specs.Input.{Parsed, all, foreign, meaningOf, before, parse, checked, checkedOf, isForeign, itemCount, clean}
+use Rattle.input.specs.Input.{asksGeneral, Parsed, all, foreign, meaningOf, before, parse, checked, checkedOf, isForeign, itemCount, clean}
 
 pub neither-left : (a b : Bool) → a || b ≡ false → a ≡ false
 neither-left true b h = h
 neither-left false b h = refl
+
+-- ---- the general call is asked for by a byte of the input
+pub nothing-asked : (input : List ℕ) → length input ≡ 0 → false ≡ asksGeneral input
+nothing-asked [] e = refl
+nothing-asked (byte ∷ bytes) e = absurd (omega arith)
+
+pub asked-within : (input : List ℕ) {asked : Bool} → asked ≡ asksGeneral input → boolByte asked ≤ length input
+asked-within [] e = rw e (omega arith)
+asked-within (byte ∷ bytes) {asked} e = omega (arith, one asked)
 
 -- ---- the input, byte by byte
 -- A byte of the input stands in front of what is left.

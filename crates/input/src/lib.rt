@@ -1,6 +1,6 @@
 // The report's input: what each byte of it is, and how many items it has.
 ghost use mathlib.Core.Path.{_≡_};
-ghost use Rattle.input.specs.Input.{meaningOf, isForeign, itemCount, checkedOf};
+ghost use Rattle.input.specs.Input.{asksGeneral, meaningOf, isForeign, itemCount, checkedOf};
 use steps::Item;
 
 // What a byte of the input is: passed over, an item, or neither.
@@ -51,6 +51,16 @@ fn item_count(meaning: Meaning) -> usize
         Meaning::AnItem(_) => 1,
         Meaning::Foreign => 0,
     }
+}
+
+// A `g` stands before all else.
+pub fn asks_general(input: &[u8]) -> bool
+    ensures { λ r. ⌜ r ≡ asksGeneral (now (input .entry)) ⌝ }
+{
+    if input.len() == 0 {
+        return false;
+    }
+    input[0] == b'g'
 }
 
 // The items are counted, up to the first foreign byte.

@@ -1,6 +1,6 @@
--- The report (01, "Report program"): from the bytes of the input to the bytes of the output.
+-- The report (01, "Report program"; 02, 1): from the bytes of the input to the bytes of the output.
 use Prim.Native.Nat.{ℕ, _+_}
-use mathlib.Core.Bool.{cond}
+use mathlib.Core.Bool.{Bool, cond}
 use mathlib.Core.List.{List, [], _∷_, _++_}
 use lib.Dec.{ltb}
 use lib.ListN.{length}
@@ -9,7 +9,7 @@ use Rattle.refusals.specs.Numbers.{numberOf}
 use Rattle.steps.specs.declared.Item.{Item}
 use Rattle.input.specs.declared.Meaning.{Meaning}
 use Rattle.input.specs.declared.Meaning.the-variants.{Skipped, AnItem, Foreign}
-use Rattle.input.specs.Input.{Parsed, all, foreign, parse}
+use Rattle.input.specs.Input.{asksGeneral, itemBytes, Parsed, all, foreign, parse}
 use Rattle.watch.specs.declared.World.{World}
 use Rattle.watch.specs.Watch.{Scene, sceneAfter, worldAfresh, memoryAfresh}
 use Rattle.text.specs.Text.{said, decimal, eventLine, numbered}
@@ -21,20 +21,23 @@ unfoldable pub linesFrom : World → List ℕ → ℕ → List Item → List ℕ
 linesFrom w memory item [] = []
 linesFrom w memory item (x ∷ xs) =
     let s : Scene = sceneAfter w memory x in
-    eventLine item (s .watched .heard) (s .watched .world .state .handler .pointer)
+    eventLine item (s .watched .heard) (s .watched .hit) (s .watched .world .state .handler .pointer)
     ++ linesFrom (s .watched .world) (s .memory) (item + 1) xs
 
 abbrev pub header : List ℕ
 header = said "item event byte ack pointer\n"
 
--- The header, a line for each event, and the number of items taken; or the refusal of the first foreign byte.
-abbrev pub parsedReport : Parsed → List ℕ
-parsedReport (all items) = header ++ (linesFrom worldAfresh memoryAfresh 0 items ++ numbered (said "end ") (length items))
-parsedReport (foreign n) = numbered (said "refused " ++ (decimal (numberOf NoItem) ++ said " at ")) n
+-- The header, a line for each event, and the number of items taken; or the refusal of the first foreign byte. The world begins
+-- with GCEN 1 where the general call is asked for.
+abbrev pub parsedReport : Bool → Parsed → List ℕ
+parsedReport general (all items) =
+    header ++ (linesFrom (worldAfresh general) memoryAfresh 0 items ++ numbered (said "end ") (length items))
+parsedReport general (foreign n) = numbered (said "refused " ++ (decimal (numberOf NoItem) ++ said " at ")) n
 
--- An input of more than 60,000 bytes is too long, before all else.
+-- An input of more than 60,000 bytes, `g` among them, is too long, before all else.
 unfoldable pub reportOf : List ℕ → List ℕ
-reportOf input = cond (ltb 60000 (length input)) (said "too long\n") (parsedReport (parse input))
+reportOf input =
+    cond (ltb 60000 (length input)) (said "too long\n") (parsedReport (asksGeneral input) (parse (itemBytes input)))
 
 -- ---- the report as code goes through it, byte by byte
 abbrev pub runAt : World → ℕ → ℕ → Run
@@ -51,7 +54,7 @@ progress run memory output = record { run = run; memory = memory; output = outpu
 abbrev pub itemPassed : Run → List ℕ → List ℕ → Item → Progress
 itemPassed run memory output x =
     let s : Scene = sceneAfter (run .world) memory x in
-    let p : Page = penned (eventLine (run .item) (s .watched .heard) (s .watched .world .state .handler .pointer)) (page (run .at) output) in
+    let p : Page = penned (eventLine (run .item) (s .watched .heard) (s .watched .hit) (s .watched .world .state .handler .pointer)) (page (run .at) output) in
     progress (runAt (s .watched .world) (run .item + 1) (p .at)) (s .memory) (p .bytes)
 
 abbrev pub bytePassed : Run → List ℕ → List ℕ → Meaning → Progress

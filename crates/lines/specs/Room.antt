@@ -6,7 +6,8 @@ use mathlib.Core.List.{List, [], _∷_, _++_}
 use native.Mathlib.Omega.{arith}
 use native.Mathlib.Nat.{zero-add}
 use lib.Dec.{ltb}
-use lib.ListN.{length, drop, length-append}
+use mir.Val.{boolByte}
+use lib.ListN.{length, drop, length-append, length-drop}
 use lib.Seq.{sets-eq}
 use borrow.Author.Tests.{ltb-false}
 use Rattle.wire.specs.declared.Bits.{Bits}
@@ -15,6 +16,7 @@ use Rattle.wire.specs.declared.Remembered.the-variants.{Nothing, Wire}
 use Rattle.wire.specs.Byte.{whole as wholeBits}
 use Rattle.wire.specs.Wire.{onWire}
 use Rattle.mssp.specs.Drivers.{sclPulled, sdaPulled}
+use Rattle.address.specs.declared.Hit.{Hit}
 use Rattle.memory.specs.Memory.{Memory, modulo, put}
 use Rattle.memory.specs.Laws.{modulo-below}
 use Rattle.firmware.specs.declared.Handler.{Handler}
@@ -32,7 +34,7 @@ use Rattle.steps.specs.declared.Item.{Item}
 use Rattle.steps.specs.declared.Item.the-variants.{Sample, Call, Read, Write}
 use Rattle.steps.specs.declared.Item.the-variants.{NotAnItem}
 use Rattle.input.specs.Laws.{found, found-short}
-use Rattle.input.specs.Input.{Parsed, all, foreign, parse}
+use Rattle.input.specs.Input.{asksGeneral, itemBytes, Parsed, all, foreign, parse}
 use Rattle.watch.specs.declared.World.{World}
 use Rattle.watch.specs.Watch.{Scene, sceneAfter, worldAfresh, memoryAfresh}
 use Rattle.text.specs.Text.{said, decimal, eventLine, numbered}
@@ -129,12 +131,12 @@ paid new-mark true sda = omega arith
 paid new-mark false sda = omega arith
 
 -- ---- sixteen bytes for each event
-line-room : (item pointer : ℕ) → item < 100000 → pointer < 32 → (heard : Heard) → length (eventLine item heard pointer) ≤ 8 * weight heard
-line-room item pointer h g Silence = omega arith
-line-room item pointer h g Started = omega (arith, line-length item pointer Started, digits-5 item h, digits-2 pointer (omega arith))
-line-room item pointer h g Stopped = omega (arith, line-length item pointer Stopped, digits-5 item h, digits-2 pointer (omega arith))
-line-room item pointer h g (Byte first byte level) =
-    omega (arith, line-length item pointer (Byte first byte level), digits-5 item h, digits-2 pointer (omega arith))
+line-room : (item pointer : ℕ) → item < 100000 → pointer < 32 → (heard : Heard) (hit : Hit) → length (eventLine item heard hit pointer) ≤ 8 * weight heard
+line-room item pointer h g Silence hit = omega arith
+line-room item pointer h g Started hit = omega (arith, line-length item pointer Started hit, digits-5 item h, digits-2 pointer (omega arith))
+line-room item pointer h g Stopped hit = omega (arith, line-length item pointer Stopped hit, digits-5 item h, digits-2 pointer (omega arith))
+line-room item pointer h g (Byte first byte level) hit =
+    omega (arith, line-length item pointer (Byte first byte level) hit, digits-5 item h, digits-2 pointer (omega arith))
 
 -- What an item leaves: the marks, and for its line eight bytes for each unit that the wire has lost.
 paid-item :
@@ -162,24 +164,30 @@ lines-room w memory item (x ∷ xs) k m h =
     let pointer : ℕ = s .watched .world .state .handler .pointer in
     let p = paid-item w memory x m in
     let rest = lines-room (s .watched .world) (s .memory) (item + 1) xs j (p .0) (omega arith) in
-    let a = length-append (eventLine item (s .watched .heard) pointer) (linesFrom (s .watched .world) (s .memory) (item + 1) xs) in
-    omega (arith, p .1, line-room item pointer (omega arith) (j .inside) (s .watched .heard))
+    let a = length-append (eventLine item (s .watched .heard) (s .watched .hit) pointer) (linesFrom (s .watched .world) (s .memory) (item + 1) xs) in
+    omega (arith, p .1, line-room item pointer (omega arith) (j .inside) (s .watched .heard) (s .watched .hit))
 
-parsed-room : (p : Parsed) → found p ≤ 60000 → length (parsedReport p) ≤ 480046
+-- The general call has no part in where the handler begins.
+small-afresh : (general : Bool) → Small (worldAfresh general .state .handler)
+small-afresh true = record { long = refl; inside = omega arith }
+small-afresh false = record { long = refl; inside = omega arith }
+
+parsed-room : (general : Bool) (p : Parsed) → found p ≤ 60000 → length (parsedReport general p) ≤ 480046
 unfolding decimal
-parsed-room (all items) h =
-    let lines : List ℕ = linesFrom worldAfresh memoryAfresh 0 items in
+parsed-room general (all items) h =
+    let lines : List ℕ = linesFrom (worldAfresh general) memoryAfresh 0 items in
     let a = length-append header (lines ++ numbered (said "end ") (length items)) in
     let b = length-append lines (numbered (said "end ") (length items)) in
-    let k = lines-room worldAfresh memoryAfresh 0 items (record { long = refl; inside = omega arith }) no-mark (omega arith) in
+    let k = lines-room (worldAfresh general) memoryAfresh 0 items (small-afresh general) no-mark (omega arith) in
     omega (arith, numbered-room (said "end ") (length items) (omega arith))
-parsed-room (foreign n) h = omega (arith, numbered-room (said "refused 4 at ") n (omega arith))
+parsed-room general (foreign n) h = omega (arith, numbered-room (said "refused 4 at ") n (omega arith))
 
 report-if : (input : List ℕ) (t : Bool) → ltb 60000 (length input) ≡ t
-    → length (cond t (said "too long\n") (parsedReport (parse input))) ≤ 480046
+    → length (cond t (said "too long\n") (parsedReport (asksGeneral input) (parse (itemBytes input)))) ≤ 480046
 report-if input true e = omega arith
 report-if input false e =
-    parsed-room (parse input) (omega (arith, found-short input, ltb-false 60000 (length input) e))
+    let shorter = length-drop (boolByte (asksGeneral input)) input in
+    parsed-room (asksGeneral input) (parse (itemBytes input)) (omega (arith, found-short (itemBytes input), ltb-false 60000 (length input) e))
 
 -- A buffer that always suffices: 38 bytes for the header and the last line, and 16 for every second item.
 pub room : (input : List ℕ) → length (reportOf input) ≤ 480046

@@ -1,4 +1,5 @@
--- The paper's example of a report (01, "Report program", and P5), an empty input, and what a line's pointer is.
+-- The paper's example of a report (01, "Report program", and P5), a general call (02, 1), an empty input and one of a `g` alone,
+-- and what a line's pointer is.
 use Prim.Native.Nat.{ℕ}
 use mathlib.Core.Path.{_≡_, refl}
 use mathlib.Core.List.{List, []}
@@ -17,9 +18,19 @@ pub worked :
 unfolding reportOf parse linesFrom decimal
 worked = refl
 
+pub general-call :
+    reportOf (said "g32 0202 0202 0202 0202 131h023")
+    ≡ said "item event byte ack pointer\n1 S -- - 0\n20 G 00 0 0\n24 P -- - 0\nend 25\n"
+unfolding reportOf parse linesFrom decimal
+general-call = refl
+
 pub empty : reportOf [] ≡ said "item event byte ack pointer\nend 0\n"
 unfolding reportOf parse linesFrom decimal
 empty = refl
+
+pub general-call-alone : reportOf (said "g") ≡ said "item event byte ack pointer\nend 0\n"
+unfolding reportOf parse linesFrom decimal
+general-call-alone = refl
 
 -- Only a handler call moves the pointer, and it makes no event: at an event the pointer is the same before and after.
 pub pointer-at-event :

@@ -36,7 +36,15 @@ fn pass_item(run: Run, memory: &mut [u8], output: &mut [u8], item: Item) -> Run
     let watched = watch::watch(run.world, memory, item);
     let next = watched.world;
     let heard = watched.heard;
-    let at = text::put_event(output, run.at, run.item, heard, next.state.handler.pointer);
+    let hit = watched.hit;
+    let at = text::put_event(
+        output,
+        run.at,
+        run.item,
+        heard,
+        hit,
+        next.state.handler.pointer,
+    );
     Run {
         world: next,
         item: run.item + 1,
@@ -89,26 +97,37 @@ fn put_lines(first: State, input: &[u8], output: &mut [u8], at: usize) -> usize
     run.at
 }
 
-// ADD is 30 (hex), the memory has 32 bytes.
-fn put_events(input: &[u8], output: &mut [u8], at: usize) -> usize
+// ADD is 30 (hex), the memory has 32 bytes; the general call is answered where it is asked for.
+fn put_events(general: bool, input: &[u8], output: &mut [u8], at: usize) -> usize
     requires { ⌜ (clean (parse (now input)) ≡ true) × (length (now input) ≤ 60000) × (at + 19 * 60001 < 2 ^ 64) ⌝ }
     ensures { λ r. ⌜ page r (now (output .exit))
-        ≡ penned (linesFrom worldAfresh memoryAfresh 0 (itemsIn (parse (now (input .entry))))) (page at (now (output .entry))) ⌝ }
+        ≡ penned (linesFrom (worldAfresh general) memoryAfresh 0 (itemsIn (parse (now (input .entry))))) (page at (now (output .entry))) ⌝ }
     ensures { λ r. ⌜ r ≤ at + 19 * 60000 ⌝ }
 {
     match firmware::set_up(0x30, 32) {
-        Made::Ready(state) => put_lines(state, input, output, at),
+        Made::Ready(state) => put_lines(watch::set_general_call(state, general), input, output, at),
         Made::NotMade(_) => at,
     }
 }
 
-fn put_report(input: &[u8], output: &mut [u8], items: usize) -> usize
+fn put_report(general: bool, input: &[u8], output: &mut [u8], items: usize) -> usize
     requires { ⌜ (checkedOf (now input) ≡ Checked.Whole items) × (length (now input) ≤ 60000) ⌝ }
-    ensures { λ r. ⌜ page r (now (output .exit)) ≡ penned (parsedReport (parse (now (input .entry)))) (page 0 (now (output .entry))) ⌝ }
+    ensures { λ r. ⌜ page r (now (output .exit)) ≡ penned (parsedReport general (parse (now (input .entry)))) (page 0 (now (output .entry))) ⌝ }
 {
     let after_header = text::put_all(output, 0, b"item event byte ack pointer\n");
-    let after_lines = put_events(input, output, after_header);
+    let after_lines = put_events(general, input, output, after_header);
     text::put_numbered(output, after_lines, b"end ", items)
+}
+
+// The items' lines, or the refusal of the first byte that is none.
+fn put_parsed(general: bool, input: &[u8], output: &mut [u8]) -> usize
+    requires { ⌜ length (now input) ≤ 60000 ⌝ }
+    ensures { λ r. ⌜ page r (now (output .exit)) ≡ penned (parsedReport general (parse (now (input .entry)))) (page 0 (now (output .entry))) ⌝ }
+{
+    match input::check(input) {
+        Checked::Whole(items) => put_report(general, input, output, items),
+        Checked::Cut(items) => text::put_numbered(output, 0, b"refused 4 at ", items),
+    }
 }
 
 // The whole report is written from the start of the output on; what does not fit is left out. The number is the report's
@@ -119,8 +138,7 @@ pub fn write_report(input: &[u8], output: &mut [u8]) -> usize
     if 60000 < input.len() {
         return text::put_all(output, 0, b"too long\n");
     }
-    match input::check(input) {
-        Checked::Whole(items) => put_report(input, output, items),
-        Checked::Cut(items) => text::put_numbered(output, 0, b"refused 4 at ", items),
-    }
+    let general = input::asks_general(input);
+    let first = general as usize;
+    put_parsed(general, &input[first..], output)
 }

@@ -11,6 +11,7 @@ use lib.Dec.{ltb}
 use lib.ListN.{length, take, getD, set, length-append}
 use lib.Seq.{sets, set-out, take-suc, take-all}
 use borrow.Author.Tests.{lt-ltb, le-ltb, ltb-true, ltb-false}
+use Rattle.address.specs.declared.Hit.{Hit}
 use Rattle.reader.specs.declared.Heard.{Heard}
 use Rattle.reader.specs.declared.Heard.the-variants.{Silence, Started, Stopped, Byte}
 use Rattle.text.specs.declared.Row.{Row}
@@ -132,15 +133,15 @@ row-length item pointer row =
     let b = length-append (decimal pointer) (said "\n") in
     omega arith
 
-pub line-length : (item pointer : ℕ) (heard : Heard)
-    → length (eventLine item heard pointer) ≤ length (decimal item) + length (decimal pointer) + 9
-line-length item pointer Silence = omega arith
-line-length item pointer Started = omega (arith, row-length item pointer (conditionRow (code "S")))
-line-length item pointer Stopped = omega (arith, row-length item pointer (conditionRow (code "P")))
-line-length item pointer (Byte first byte level) = omega (arith, row-length item pointer (byteRow first byte level))
+pub line-length : (item pointer : ℕ) (heard : Heard) (hit : Hit)
+    → length (eventLine item heard hit pointer) ≤ length (decimal item) + length (decimal pointer) + 9
+line-length item pointer Silence hit = omega arith
+line-length item pointer Started hit = omega (arith, row-length item pointer (conditionRow (code "S")))
+line-length item pointer Stopped hit = omega (arith, row-length item pointer (conditionRow (code "P")))
+line-length item pointer (Byte first byte level) hit = omega (arith, row-length item pointer (byteRow first hit byte level))
 
-pub line-room : (item pointer : ℕ) (heard : Heard) → item < 100000 → pointer < 100000 → length (eventLine item heard pointer) ≤ 19
-line-room item pointer heard h g = omega (arith, line-length item pointer heard, digits-5 item h, digits-5 pointer g)
+pub line-room : (item pointer : ℕ) (heard : Heard) (hit : Hit) → item < 100000 → pointer < 100000 → length (eventLine item heard hit pointer) ≤ 19
+line-room item pointer heard hit h g = omega (arith, line-length item pointer heard hit, digits-5 item h, digits-5 pointer g)
 
 pub numbered-length : (words : List ℕ) (n : ℕ) → length (numbered words n) ≡ length words + length (decimal n) + 1
 numbered-length words n =
@@ -152,16 +153,16 @@ pub numbered-room : (words : List ℕ) (n : ℕ) → n < 100000 → length (numb
 numbered-room words n h = omega (arith, numbered-length words n, digits-5 n h)
 
 -- Nothing is written where nothing is heard; else the row of what was heard.
-module _ (item pointer : ℕ) {heard told : Heard} (e : heard ≡ told) where
-  pub no-line : told ≡ Silence → (at : ℕ) (bytes : List ℕ) → page at bytes ≡ penned (eventLine item heard pointer) (page at bytes)
+module _ (item pointer : ℕ) {heard told : Heard} (hit : Hit) (e : heard ≡ told) where
+  pub no-line : told ≡ Silence → (at : ℕ) (bytes : List ℕ) → page at bytes ≡ penned (eventLine item heard hit pointer) (page at bytes)
   no-line s at bytes = rw (e, s) (penned-none at bytes)
 
-  module _ {row shown : Row} (f : row ≡ shown) (same : eventLine item told pointer ≡ rowLine item shown pointer) where
-    line-of-row : eventLine item heard pointer ≡ rowLine item row pointer
+  module _ {row shown : Row} (f : row ≡ shown) (same : eventLine item told hit pointer ≡ rowLine item shown pointer) where
+    line-of-row : eventLine item heard hit pointer ≡ rowLine item row pointer
     line-of-row = rw e (same ∙ rw f)
 
-    pub row-put : (p : Page) {q : Page} → q ≡ penned (rowLine item row pointer) p → q ≡ penned (eventLine item heard pointer) p
+    pub row-put : (p : Page) {q : Page} → q ≡ penned (rowLine item row pointer) p → q ≡ penned (eventLine item heard hit pointer) p
     row-put p w = w ∙ rw line-of-row
 
-    pub room-for-row : (at most : ℕ) → at + length (eventLine item heard pointer) < most → at + length (rowLine item row pointer) < most
+    pub room-for-row : (at most : ℕ) → at + length (eventLine item heard hit pointer) < most → at + length (rowLine item row pointer) < most
     room-for-row at most h = rw (← line-of-row) h

@@ -1,4 +1,4 @@
--- The report's text, as bytes (01, "Report program"): its numbers, and the line of an event.
+-- The report's text, as bytes (01, "Report program"; 02, 1): its numbers, and the line of an event.
 use Prim.Native.Nat.{ℕ, zero, suc, _+_, _-_, _/_, _%_}
 use Prim.Native.Char.{code}
 use Prim.Native.String.{String}
@@ -7,6 +7,8 @@ use mathlib.Core.Bool.{Bool, cond}
 use mathlib.Core.List.{List, [], _∷_, _++_}
 use lib.Dec.{ltb}
 use mir.Val.{boolByte}
+use Rattle.address.specs.declared.Hit.{Hit}
+use Rattle.address.specs.declared.Hit.the-variants.{None, Own, GeneralCall}
 use Rattle.reader.specs.declared.Heard.{Heard}
 use Rattle.reader.specs.declared.Heard.the-variants.{Silence, Started, Stopped, Byte}
 use Rattle.text.specs.declared.Row.{Row}
@@ -40,9 +42,16 @@ rowOf event high low ack = record { event = event; high = high; low = low; ack =
 abbrev pub conditionRow : ℕ → Row
 conditionRow event = rowOf event (code "-") (code "-") (code "-")
 
--- A byte is A if it is the first after a Start, else D; then its two hex digits and the level of the ninth clock.
-abbrev pub byteRow : Bool → ℕ → Bool → Row
-byteRow first byte level = rowOf (cond first (code "A") (code "D")) (hexDigit (byte / 16)) (hexDigit (byte % 16)) (digit (boolByte level))
+-- The letter of a first byte after a Start, by which address it hits: G for the general call, else A.
+abbrev pub firstLetter : Hit → ℕ
+firstLetter None = code "A"
+firstLetter Own = code "A"
+firstLetter GeneralCall = code "G"
+
+-- A byte has that letter if it is the first after a Start, else D; then its two hex digits and the level of the ninth clock.
+abbrev pub byteRow : Bool → Hit → ℕ → Bool → Row
+byteRow first hit byte level =
+    rowOf (cond first (firstLetter hit) (code "D")) (hexDigit (byte / 16)) (hexDigit (byte % 16)) (digit (boolByte level))
 
 -- What stands between a line's two numbers.
 abbrev pub middle : Row → List ℕ
@@ -53,11 +62,11 @@ abbrev pub rowLine : ℕ → Row → ℕ → List ℕ
 rowLine item row pointer = decimal item ++ (middle row ++ (decimal pointer ++ said "\n"))
 
 -- A line for each event, none where nothing is heard.
-abbrev pub eventLine : ℕ → Heard → ℕ → List ℕ
-eventLine item Silence pointer = []
-eventLine item Started pointer = rowLine item (conditionRow (code "S")) pointer
-eventLine item Stopped pointer = rowLine item (conditionRow (code "P")) pointer
-eventLine item (Byte first byte level) pointer = rowLine item (byteRow first byte level) pointer
+abbrev pub eventLine : ℕ → Heard → Hit → ℕ → List ℕ
+eventLine item Silence hit pointer = []
+eventLine item Started hit pointer = rowLine item (conditionRow (code "S")) pointer
+eventLine item Stopped hit pointer = rowLine item (conditionRow (code "P")) pointer
+eventLine item (Byte first byte level) hit pointer = rowLine item (byteRow first hit byte level) pointer
 
 -- A line that ends in a number.
 abbrev pub numbered : List ℕ → ℕ → List ℕ

@@ -3,8 +3,9 @@ ghost use mathlib.Core.Path.{_≡_};
 ghost use Prim.Native.Nat.{_+_, _<_, _^_};
 ghost use mathlib.Core.List.{[], _∷_};
 ghost use lib.ListN.{length};
-ghost use Rattle.text.specs.Text.{hexDigit, decimal, conditionRow, byteRow, rowLine, eventLine, numbered};
+ghost use Rattle.text.specs.Text.{hexDigit, decimal, conditionRow, firstLetter, byteRow, rowLine, eventLine, numbered};
 ghost use Rattle.text.specs.Page.{page, penned};
+use address::Hit;
 use reader::Heard;
 
 // What an event's line says between its two numbers.
@@ -74,12 +75,23 @@ fn condition_row(event: u8) -> Row
     }
 }
 
+// The letter of a first byte after a Start.
+fn first_letter(hit: Hit) -> u8
+    ensures { λ r. ⌜ r ≡ firstLetter hit ⌝ }
+{
+    match hit {
+        Hit::None => b'A',
+        Hit::Own => b'A',
+        Hit::GeneralCall => b'G',
+    }
+}
+
 // The row of a byte, the first after a Start or a later one, with the level of its ninth clock.
-fn byte_row(first: bool, byte: u8, level: bool) -> Row
-    ensures { λ r. ⌜ r ≡ byteRow first byte level ⌝ }
+fn byte_row(first: bool, hit: Hit, byte: u8, level: bool) -> Row
+    ensures { λ r. ⌜ r ≡ byteRow first hit byte level ⌝ }
 {
     Row {
-        event: mssp::pick_byte(first, b'A', b'D'),
+        event: mssp::pick_byte(first, first_letter(hit), b'D'),
         high: hex_digit(byte / 16),
         low: hex_digit(byte % 16),
         ack: b'0' + (level as u8),
@@ -108,9 +120,16 @@ fn put_row(output: &mut [u8], at: usize, item: usize, row: Row, pointer: u16) ->
 }
 
 // A line where something was heard.
-pub fn put_event(output: &mut [u8], at: usize, item: usize, heard: Heard, pointer: u16) -> usize
-    requires { ⌜ at + length (eventLine item heard pointer) < 2 ^ 64 ⌝ }
-    ensures { λ r. ⌜ page r (now (output .exit)) ≡ penned (eventLine item heard pointer) (page at (now (output .entry))) ⌝ }
+pub fn put_event(
+    output: &mut [u8],
+    at: usize,
+    item: usize,
+    heard: Heard,
+    hit: Hit,
+    pointer: u16,
+) -> usize
+    requires { ⌜ at + length (eventLine item heard hit pointer) < 2 ^ 64 ⌝ }
+    ensures { λ r. ⌜ page r (now (output .exit)) ≡ penned (eventLine item heard hit pointer) (page at (now (output .entry))) ⌝ }
 {
     match heard {
         Heard::Silence => at,
@@ -120,7 +139,7 @@ pub fn put_event(output: &mut [u8], at: usize, item: usize, heard: Heard, pointe
             output,
             at,
             item,
-            byte_row(first, byte, level),
+            byte_row(first, hit, byte, level),
             pointer,
         ),
     }

@@ -1,7 +1,9 @@
 // The wire watched while items are played: what an item leaves of the world, and what the plain reader hears at it.
 ghost use mathlib.Core.Path.{_≡_};
-ghost use Rattle.watch.specs.Watch.{scene, levelSeen, itemSeen, sceneAfter};
+ghost use Rattle.watch.specs.Watch.{scene, levelSeen, itemSeen, hitHeard, sceneAfter, withGeneralCall};
+use address::Hit;
 use firmware::State;
+use mssp::Config;
 use reader::Heard;
 use reader::Reader;
 use steps::Item;
@@ -18,10 +20,11 @@ pub struct Listened {
     pub heard: Heard,
 }
 
-// The world after an item, and what the reader heard at it.
+// The world after an item, what the reader heard at it, and which address a byte heard hits.
 pub struct Watched {
     pub world: World,
     pub heard: Heard,
+    pub hit: Hit,
 }
 
 // A sample: the reader is fed with the wire, which is low where the sample is low or the module pulls.
@@ -61,6 +64,34 @@ fn see_item(world: World, item: Item) -> Listened
     }
 }
 
+// Only a byte hits an address.
+fn hit_heard(c: Config, heard: Heard) -> Hit
+    ensures { λ r. ⌜ r ≡ hitHeard c heard ⌝ }
+{
+    match heard {
+        Heard::Silence => Hit::None,
+        Heard::Started => Hit::None,
+        Heard::Stopped => Hit::None,
+        Heard::Byte(_, byte, _) => address::compare(c, byte),
+    }
+}
+
+// Where the general call is asked for, GCEN is set, by a write to CON2 that leaves SEN.
+pub fn set_general_call(state: State, general: bool) -> State
+    ensures { λ r. ⌜ r ≡ withGeneralCall general state ⌝ }
+{
+    if general {
+        let access = writes::write(state.mssp, 3, 0x81);
+        let left = access.mssp;
+        State {
+            mssp: left,
+            ..state
+        }
+    } else {
+        state
+    }
+}
+
 // An item: its step on state and memory, and the reader beside it.
 pub fn watch(world: World, memory: &mut [u8], item: Item) -> Watched
     ensures { λ r. ⌜ scene r (now (memory .exit)) ≡ sceneAfter world (now (memory .entry)) item ⌝ }
@@ -69,6 +100,8 @@ pub fn watch(world: World, memory: &mut [u8], item: Item) -> Watched
     let seen = see_item(world, item);
     let reader = seen.reader;
     let heard = seen.heard;
+    let m = state.mssp;
+    let hit = hit_heard(m.config, heard);
     let answered = steps::step(state, memory, item);
     let next = answered.state;
     Watched {
@@ -77,5 +110,6 @@ pub fn watch(world: World, memory: &mut [u8], item: Item) -> Watched
             reader: reader,
         },
         heard: heard,
+        hit: hit,
     }
 }

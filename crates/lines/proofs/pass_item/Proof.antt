@@ -11,7 +11,7 @@ room-for-line c κs =
     let w = c .before .before .before .before in
     let s = w .before .before .before .before in
     let o = w .watch .result in
-    omega (arith, line-room (s .args .run .item) (o .world .state .handler .pointer) (o .heard) (s .pre .0) (omega (arith, w .watch .ok)))
+    omega (arith, line-room (s .args .run .item) (o .world .state .handler .pointer) (o .heard) (o .hit) (s .pre .0) (omega (arith, w .watch .ok)))
 
 pointer-after-the-item : tie.Need-returns
 pointer-after-the-item c =
@@ -21,7 +21,7 @@ pointer-after-the-item c =
     let o = w .watch .result in
     let p = e .put-event .ensures in (
       item-passed (s .args .run) (s .args .memory .now) (s .args .output .now) (s .args .item) (w .watch .ensures) p,
-      omega (arith, penned-at _ _ p, line-room (s .args .run .item) (o .world .state .handler .pointer) (o .heard) (s .pre .0) (omega (arith, w .watch .ok))),
+      omega (arith, penned-at _ _ p, line-room (s .args .run .item) (o .world .state .handler .pointer) (o .heard) (o .hit) (s .pre .0) (omega (arith, w .watch .ok))),
     )
 
 pub pass-item-spec : {M : Type 1} → statement M

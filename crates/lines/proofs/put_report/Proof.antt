@@ -28,7 +28,7 @@ items-at-the-end c =
     let e = n .before .before .before .before .before in
     let h = e .before .before .before .before in
     let s = h .before .before .before .before .before in
-    whole-report _ (s .pre .0) _ (h .put-all .ensures) (e .put-events .ensures .0) (n .put-numbered .ensures)
+    whole-report _ _ (s .pre .0) _ (h .put-all .ensures) (e .put-events .ensures .0) (n .put-numbered .ensures)
 
 pub put-report-spec : {M : Type 1} → statement M
 put-report-spec =

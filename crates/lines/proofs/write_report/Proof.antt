@@ -1,11 +1,9 @@
--- `lines::write_report` meets its contract: too long, refused or whole.
+-- `lines::write_report` meets its contract: too long, or the report of what stands behind a `g`.
 use borrow.Author.Needs.{needs}
-use native.Mathlib.Omega.{arith}
-use mathlib.Core.Path.{sym, _∙_}
-use Rattle.input.specs.Laws.{cut-short}
-use Rattle.text.specs.Text.{said}
-use Rattle.text.specs.Laws.{numbered-room}
-use Rattle.lines.specs.Laws.{cut-report, long-report, short-report}
+use mir.Val.{boolByte}
+use borrow.Rule.Slice.PartAt.{part-to-end}
+use Rattle.input.specs.Laws.{asked-within}
+use Rattle.lines.specs.Laws.{long-report, short-report}
 use Rattle.lines.proofs.write_report.Statement.{statement}
 use Rattle.lines.proofs.write_report.Tie as tie
 
@@ -15,28 +13,12 @@ too-long c =
     let t = w .before .before .before in
     long-report (t .before .before .before .args .input .now) (t .if1 .taken) _ (w .put-all .ensures)
 
-whole-and-short : tie.Need-put-report-requires
-whole-and-short c κs =
-    let m = c .before .before in
-    let k = m .before .before in
-    (sym (k .check .ensures) ∙ m .items .given .1, k .before .if1 .left)
-
-room-for-refusal : tie.Need-put-numbered-requires
-room-for-refusal c κs =
-    let m = c .before .before .before in
-    let k = m .before .before in
-    let n = cut-short _ (sym (k .check .ensures) ∙ m .items2 .given .1) in
-    omega (arith, numbered-room (said "refused 4 at ") (m .items2 .given .0 .0) (omega arith))
-
-whole : tie.Need-returns-2
-whole c = let r = c .before .before in short-report _ (r .before .before .before .before .before .before .if1 .left) _ (r .put-report .ensures)
-
-cut : tie.Need-returns-3
-cut c =
-    let n = c .before .before in
-    let m = n .before .before .before .before in
-    let k = m .before .before in
-    cut-report _ (k .before .if1 .left) (sym (k .check .ensures) ∙ m .items2 .given .1) _ (n .put-numbered .ensures)
+items-reported : tie.Need-returns-2
+items-reported c =
+    let p = c .before .before in
+    let g = p .before .before .before in
+    let input = g .before .before .before .before .args .input .now in
+    short-report input (g .before .if1 .left) (g .asks-general .ensures) _ (rw (part-to-end input (boolByte (g .asks-general .result))) at (p .put-parsed .ensures))
 
 pub write-report-spec : {M : Type 1} → statement M
 write-report-spec =
@@ -45,10 +27,7 @@ write-report-spec =
     (λ c. search needs) (λ c κs. search needs) (λ c. search needs)
     too-long
     (λ c κs. search needs) (λ c. search needs)
-    whole-and-short
-    (λ c. search needs) (λ c. search needs)
-    room-for-refusal
-    (λ c. search needs)
-    whole
-    (λ c. search needs)
-    cut)
+    (λ c. asked-within (c .before .before .before .before .args .input .now) (c .asks-general .ensures))
+    (λ c. asked-within (c .before .before .before .before .args .input .now) (c .asks-general .ensures))
+    (λ c. search needs) (λ c κs. search needs) (λ c. search needs)
+    items-reported)
