@@ -170,7 +170,7 @@ static void fresh(bench *b, uint16_t n)
     unsigned i;
 
     b->source.n = n;
-    b->source.add = (uint8_t)(traffic_once_in(&b->source, 3) ? 0x30 : traffic_below(&b->source, 256));
+    b->source.add = traffic_add(&b->source);
     b->source.left = ROUND;
     b->source.held = 0;
     b->length = 0;

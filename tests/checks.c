@@ -1,6 +1,7 @@
 /* Checks through the door the bench examples, rules and readings sentence by sentence, the refusals and their order, the
    state images and the finder. */
 #include "door.h"
+#include "hits.h"
 #include "slots.h"
 #include "write_refusal.h"
 
@@ -60,13 +61,19 @@ static void items(const char *text)
     expect(is_refusal(door.run(image, DOOR_IMAGE, buffer, BUFFER, GUARD, length_n, trace, length), 0, 0), "run");
 }
 
-/* The eight bits of a byte, up to and with its eighth fall. */
-static void bits(unsigned value)
+/* The eight bits of a byte, each by these items for a 1 and for a 0. */
+static void each_bit(unsigned value, const char *one, const char *zero)
 {
     int i;
 
     for (i = 7; i >= 0; i--)
-        items((value >> i) & 1 ? "131" : "020");
+        items((value >> i) & 1 ? one : zero);
+}
+
+/* The eight bits of a byte, up to and with its eighth fall. */
+static void bits(unsigned value)
+{
+    each_bit(value, "131", "020");
 }
 
 /* A byte with a released ninth slot and one handler call. */
@@ -115,6 +122,18 @@ static door_view now(void)
     return door.look(image, DOOR_IMAGE);
 }
 
+/* Which address a first byte hits, as the door says; it is not refused and changes nothing. */
+static unsigned hit(unsigned byte)
+{
+    uint8_t old[DOOR_IMAGE];
+    door_answer a;
+
+    memcpy(old, image, DOOR_IMAGE);
+    a = door.hit(image, DOOR_IMAGE, (uint8_t)byte);
+    expect(a.refusal == 0 && a.item == 0 && memcmp(old, image, DOOR_IMAGE) == 0, "hit is not refused and changes nothing");
+    return a.value;
+}
+
 /* ---- Bench examples ---- */
 
 /* P1 to P5: first levels and the trace with the report. */
@@ -146,13 +165,13 @@ static int acknowledged(uint8_t number, uint8_t value, unsigned address)
     return now().sda_pulled;
 }
 
-/* P6 and P7: mask and general call. */
+/* P6 and P7: mask and general call, and which address hit. */
 static void bench_addresses(void)
 {
-    expect(acknowledged(MSK, 0xF0, 0x3E), "P6 3E");
-    expect(!acknowledged(MSK, 0xF0, 0x40), "P6 40");
-    expect(acknowledged(CON2, 0x81, 0x00), "P7 00");
-    expect(!acknowledged(CON2, 0x81, 0x01), "P7 01");
+    expect(acknowledged(MSK, 0xF0, 0x3E) && hit(0x3E) == HIT_OWN, "P6 3E");
+    expect(!acknowledged(MSK, 0xF0, 0x40) && hit(0x40) == HIT_NONE, "P6 40");
+    expect(acknowledged(CON2, 0x81, 0x00) && hit(0x00) == HIT_GENERAL_CALL, "P7 00");
+    expect(!acknowledged(CON2, 0x81, 0x01) && hit(0x01) == HIT_NONE, "P7 01");
 }
 
 /* A message whose address was taken and not read, so that the next byte is refused; SEN is 0 and SSPIF cleared. */
@@ -410,21 +429,53 @@ static void ninth_clock(unsigned wanted, const char *what)
     expect(reg(CON1) == (holds ? con1 & ~(unsigned)CKP : con1), what);
 }
 
-/* One byte from its first bit to its ninth fall: an address or a data byte, with what stands in the registers before it. */
-static void whole_byte(int phase, unsigned value, unsigned stat, unsigned con1, unsigned con2, unsigned con3)
-{
-    int refused = (stat & BF) || (con1 & SSPOV);
-    int held = (con3 & (phase == DOOR_DATA ? DHEN : AHEN)) != 0;
-    unsigned direction = phase == DOOR_DATA ? (stat & RW) | DA : value & 1 ? RW : 0;
-    unsigned after = refused ? SLOT_REFUSED : held && (con2 & ACKDT) ? SLOT_DECLINED : SLOT_PULLING;
+/* What stands in the registers before a byte. */
+typedef struct {
+    unsigned stat, con1, con2, con3;
+} settings;
 
-    made(stat, con1, con3, phase, 0, 0);
+enum { SETTINGS = 128 };
+
+/* GCEN 1 and, by a number below SETTINGS, BF, SSPOV, CKP, ACKDT, SEN, DHEN and AHEN each 0 and 1. */
+static settings some_settings(unsigned pick)
+{
+    settings s;
+
+    s.stat = S | (pick & 1 ? BF : 0);
+    s.con1 = 0x26 | (pick & 2 ? SSPOV : 0) | (pick & 4 ? CKP : 0);
+    s.con2 = GCEN | (pick & 8 ? ACKDT : 0) | (pick & 16 ? SEN : 0);
+    s.con3 = pick >> 5;
+    return s;
+}
+
+/* A state before the first bit of an address or a data byte, with 99 in BUF. */
+static void before_byte(int phase, settings s)
+{
+    made(s.stat, s.con1, s.con3, phase, 0, 0);
     image[BUF] = 0x99;
-    image[CON2] = (uint8_t)con2;
+    image[CON2] = (uint8_t)s.con2;
+}
+
+/* What BUF holds after a byte that was taken in. */
+static unsigned loaded_buf(unsigned value, settings s)
+{
+    return s.stat & BF ? 0x99 : value;
+}
+
+/* One byte from its first bit to its ninth fall: an address or a data byte, beside D/A and R/W as they stood before it. */
+static void whole_byte(int phase, unsigned value, unsigned stood, settings s)
+{
+    int refused = (s.stat & BF) || (s.con1 & SSPOV);
+    int held = (s.con3 & (phase == DOOR_DATA ? DHEN : AHEN)) != 0;
+    unsigned direction = phase == DOOR_DATA ? (stood & RW) | DA : value & 1 ? RW : 0;
+    unsigned after = refused ? SLOT_REFUSED : held && (s.con2 & ACKDT) ? SLOT_DECLINED : SLOT_PULLING;
+
+    s.stat |= stood;
+    before_byte(phase, s);
     bits(value);
-    expect(reg(BUF) == (stat & BF ? 0x99 : value) && reg(STAT) == (S | BF | direction), "intake: BUF, BF, D/A and R/W");
+    expect(reg(BUF) == loaded_buf(value, s) && reg(STAT) == (S | BF | direction), "intake: BUF, BF, D/A and R/W");
     expect((reg(CON1) & SSPOV) == (refused ? SSPOV : 0), "intake: SSPOV");
-    expect(reg(CON3) == (con3 & (AHEN | DHEN) ? con3 | ACKTIM : con3), "intake: ACKTIM");
+    expect(reg(CON3) == (s.con3 & (AHEN | DHEN) ? s.con3 | ACKTIM : s.con3), "intake: ACKTIM");
     expect(reg(FLAG) == (unsigned)held && now().phase == (held ? DOOR_HELD_BEFORE : DOOR_SLOT), "intake: SSPIF with a hold");
     if (held) {
         expect(now().refused == refused && image[PART_AT] == refused && now().scl_pulled, "a hold, refused or not");
@@ -432,7 +483,7 @@ static void whole_byte(int phase, unsigned value, unsigned stat, unsigned con1, 
         release();
         expect(reg(FLAG) == 0, "no SSPIF at the release");
     }
-    expect(((reg(CON1) & CKP) != 0) == (held || (con1 & CKP)), "CKP in the slot");
+    expect(((reg(CON1) & CKP) != 0) == (held || (s.con1 & CKP)), "CKP in the slot");
     ninth_clock(after, "a whole byte");
 }
 
@@ -443,17 +494,16 @@ static void whole_bytes(void)
     static const unsigned addresses[3] = {0x30, 0x31, 0x00};
     unsigned pick;
 
-    for (pick = 0; pick < 128; pick++) {
-        unsigned stat = S | (pick & 1 ? BF : 0), con1 = 0x26 | (pick & 2 ? SSPOV : 0) | (pick & 4 ? CKP : 0);
-        unsigned con2 = GCEN | (pick & 8 ? ACKDT : 0) | (pick & 16 ? SEN : 0), con3 = pick >> 5;
+    for (pick = 0; pick < SETTINGS; pick++) {
+        settings s = some_settings(pick);
         int i;
 
         for (i = 0; i < 3; i++) {
-            whole_byte(DOOR_ADDRESS, addresses[i], stat, con1, con2, con3);
-            whole_byte(DOOR_ADDRESS, addresses[i], stat | DA | RW, con1, con2, con3);
+            whole_byte(DOOR_ADDRESS, addresses[i], 0, s);
+            whole_byte(DOOR_ADDRESS, addresses[i], DA | RW, s);
         }
-        whole_byte(DOOR_DATA, 0x44, stat, con1, con2, con3);
-        whole_byte(DOOR_DATA, 0x45, stat | DA, con1, con2, con3);
+        whole_byte(DOOR_DATA, 0x44, 0, s);
+        whole_byte(DOOR_DATA, 0x45, DA, s);
     }
 }
 
@@ -646,6 +696,145 @@ static void rule_case(void)
     expect(in_slot(SLOT_REFUSED) && reg(FLAG) == 0, "the first sample is only remembered, in a refused slot too");
 }
 
+/* ---- Which address a first byte hits ---- */
+
+/* Fresh, with these in ADD, MSK, CON2 and CON3. */
+static void addressed(unsigned add, unsigned msk, unsigned con2, unsigned con3)
+{
+    fresh((uint8_t)add, 32);
+    put(MSK, (uint8_t)msk);
+    put(CON2, (uint8_t)con2);
+    put(CON3, (uint8_t)con3);
+}
+
+/* A Start and a first byte, asked about between its eighth rise and its fall: it is taken exactly where hit says own or general
+   call. Answers which. */
+static unsigned first_byte(unsigned byte)
+{
+    int taken = reg(CON3) & AHEN ? DOOR_HELD_BEFORE : DOOR_SLOT;
+    unsigned which;
+
+    items("320");
+    each_bit(byte, "13", "02");
+    expect(now().phase == DOOR_ADDRESS && now().bits == 8 && now().byte == byte, "the eight bits of a first byte");
+    which = hit(now().byte);
+    items(byte & 1 ? "1" : "0");
+    expect(now().phase == (which == HIT_NONE ? DOOR_QUIET : taken), "taken exactly where hit says own or general call");
+    return which;
+}
+
+/* Before any sample, on the bus, and with the module switched off: the registers alone decide. */
+static void rule_hit(void)
+{
+    static const struct { uint8_t add, msk, con2, byte; unsigned which; const char *what; } rows[20] = {
+        {0x30, 0xF0, 0x01, 0x3E, HIT_OWN, "hit: P6 3E"}, {0x30, 0xF0, 0x01, 0x40, HIT_NONE, "hit: P6 40"},
+        {0x30, 0xFF, 0x81, 0x00, HIT_GENERAL_CALL, "hit: P7 00"}, {0x30, 0xFF, 0x81, 0x01, HIT_NONE, "hit: P7 01"},
+        {0x30, 0xFF, 0x81, 0x30, HIT_OWN, "hit: its own, GCEN 1"}, {0x31, 0xFF, 0x81, 0x30, HIT_OWN, "hit: bit 0 of ADD"},
+        {0x30, 0xFF, 0x01, 0x31, HIT_OWN, "hit: R/W 1"}, {0x30, 0xFF, 0x01, 0x00, HIT_NONE, "hit: 00, GCEN 0"},
+        {0x30, 0xFF, 0x21, 0x00, HIT_NONE, "hit: 00, ACKDT 1 and GCEN 0"},
+        {0x00, 0xFF, 0x81, 0x00, HIT_OWN, "hit: 00, ADD 00"}, {0x01, 0xFF, 0x81, 0x00, HIT_OWN, "hit: 00, ADD 01"},
+        {0x00, 0xFF, 0x01, 0x00, HIT_OWN, "hit: 00, ADD 00 and GCEN 0"}, {0x00, 0xFF, 0x81, 0x01, HIT_OWN, "hit: 01, ADD 00"},
+        {0x30, 0xCF, 0x81, 0x00, HIT_OWN, "hit: 00 under MSK CF"}, {0x30, 0xCF, 0x81, 0x01, HIT_OWN, "hit: 01 under MSK CF"},
+        {0x30, 0xEF, 0x81, 0x00, HIT_GENERAL_CALL, "hit: 00 under MSK EF"},
+        {0x30, 0x00, 0x81, 0x00, HIT_OWN, "hit: 00 under MSK 00"}, {0x30, 0x00, 0x01, 0xCE, HIT_OWN, "hit: CE under MSK 00"},
+        {0x30, 0x01, 0x01, 0xCF, HIT_OWN, "hit: CF under MSK 01"},
+        {0x02, 0xFE, 0x81, 0x00, HIT_GENERAL_CALL, "hit: 00, ADD 02 under MSK FE"}
+    };
+    int i;
+
+    for (i = 0; i < 20; i++) {
+        addressed(rows[i].add, rows[i].msk, rows[i].con2, 0x00);
+        expect(hit(rows[i].byte) == rows[i].which, rows[i].what);
+        expect(first_byte(rows[i].byte) == rows[i].which && hit(rows[i].byte) == rows[i].which, rows[i].what);
+        put(CON1, 0x06);
+        expect(hit(rows[i].byte) == rows[i].which, rows[i].what);
+    }
+}
+
+/* Every first byte on the bus, for some ADD and MSK, with GCEN and AHEN each 0 and 1. */
+static void rule_taken(void)
+{
+    static const uint8_t adds[6] = {0x30, 0x31, 0x00, 0x01, 0x02, 0x80}, masks[6] = {0xFF, 0xFE, 0xF0, 0x7D, 0x01, 0x00};
+    unsigned pick, byte;
+
+    for (pick = 0; pick < 6 * 6 * 4; pick++)
+        for (byte = 0; byte < 256; byte++) {
+            addressed(adds[pick / 4 % 6], masks[pick / 24], pick & 1 ? GCEN | SEN : SEN, pick & 2 ? AHEN : 0x00);
+            expect(first_byte(byte) == hit_of(image, byte), "every first byte");
+        }
+}
+
+/* ADD, MSK and a first byte. */
+typedef struct {
+    uint8_t add, msk, byte;
+} comparison;
+
+/* The image that a first byte leaves at its eighth fall, where it hits this address; BUF, ADD and MSK are made 0 in it. */
+static void left_by(settings s, comparison c, unsigned which, uint8_t *left)
+{
+    before_byte(DOOR_ADDRESS, s);
+    image[ADD] = c.add;
+    image[MSK] = c.msk;
+    expect(hit(c.byte) == which, "a first byte by ADD and MSK");
+    bits(c.byte);
+    expect(reg(BUF) == loaded_buf(c.byte, s), "BUF after a first byte that was taken");
+    memcpy(left, image, DOOR_IMAGE);
+    left[BUF] = left[ADD] = left[MSK] = 0;
+}
+
+/* Own and general call are taken in the same way: the states after them differ in nothing else. */
+static void rule_same_way(void)
+{
+    static const comparison general = {0x30, 0xFF, 0x00};
+    static const comparison own[4] = {{0x00, 0xFF, 0x00}, {0x01, 0xFF, 0x00}, {0x30, 0xCF, 0x00}, {0x30, 0xFF, 0x30}};
+    uint8_t by_general[DOOR_IMAGE], by_own[DOOR_IMAGE];
+    unsigned pick;
+    int i;
+
+    for (pick = 0; pick < SETTINGS; pick++) {
+        left_by(some_settings(pick), general, HIT_GENERAL_CALL, by_general);
+        for (i = 0; i < 4; i++) {
+            left_by(some_settings(pick), own[i], HIT_OWN, by_own);
+            expect(memcmp(by_general, by_own, DOOR_IMAGE) == 0, "own and general call in the same way");
+        }
+    }
+}
+
+/* A byte with these put into ADD and MSK, GCEN 0 and 1, beside the reading bit by bit. */
+static void asked(unsigned add, unsigned msk, unsigned byte)
+{
+    unsigned con2;
+
+    image[ADD] = (uint8_t)add;
+    image[MSK] = (uint8_t)msk;
+    for (con2 = 0; con2 <= GCEN; con2 += GCEN) {
+        image[CON2] = (uint8_t)con2;
+        expect(hit(byte) == hit_of(image, byte), "hit as bit by bit");
+    }
+}
+
+/* Each ADD with each MSK: 00, 01, ADD, and ADD but for any one bit. Then each ADD with each byte, in a module that is off,
+   under a mask of each bit, of none, of half the bits and of all. */
+static void rule_registers(void)
+{
+    static const uint8_t masks[13] = {0x01, 0x02, 0x04, 0x08, 0x10, 0x20, 0x40, 0x80, 0x00, 0x0F, 0xF0, 0xFE, 0xFF};
+    unsigned add, other, i;
+
+    fresh(0x30, 32);
+    for (add = 0; add < 256; add++)
+        for (other = 0; other < 256; other++) {
+            asked(add, other, 0x00);
+            asked(add, other, 0x01);
+            for (i = 0; i <= 8; i++)
+                asked(add, other, add ^ (1u << i & 0xFF));
+        }
+    put(CON1, 0x06);
+    for (add = 0; add < 256; add++)
+        for (other = 0; other < 256; other++)
+            for (i = 0; i < 13; i++)
+                asked(add, masks[i], other);
+}
+
 /* ---- Refusals ---- */
 
 /* Refusals at setup, in register access and in a sample; each leaves the state as it was. */
@@ -669,6 +858,7 @@ static void refusals_single(void)
     expect(is_refusal(door.write(image, 48, CON1, 0x27), 3, 0), "write: 3 before 8");
     expect(is_refusal(door.write(image, 48, CON1, 0xEE), 8, 0), "write: 8");
     expect(is_refusal(door.write(image, 47, CON1, 0xEE), 6, 0), "write: 6 before 8");
+    expect(is_refusal(door.hit(image, 47, 0x30), 6, 0), "hit: 6");
     expect(is_refusal(door.sample(image, 47, 4), 6, 0), "sample: 6 before 4");
     expect(is_refusal(door.sample(image, 48, 4), 4, 0), "sample: 4");
     expect(memcmp(old, image, DOOR_IMAGE) == 0, "refusals leave the state");
@@ -849,19 +1039,24 @@ static void images(unsigned long rounds)
     uint8_t old[DOOR_IMAGE];
 
     while (rounds-- > 0) {
+        unsigned pick = below(HIT_BYTES), byte = below(256);
+
         near_image(image);
+        byte = hit_byte(image, pick, byte);
         memcpy(old, image, DOOR_IMAGE);
         if (is_a_state(image)) {
             unsigned n = image[16] + 256u * image[17], i;
 
             states++;
             expect(now().refusal == 0, "look on a state");
+            expect(hit(byte) == hit_of(image, byte), "hit on a state");
             expect(image[8] != DOOR_SLOT || in_slot(image[PART_AT]), "look on a slot");
             for (i = 0; i < 6; i++)
                 modes += any_call(n) == 8;
             continue;
         }
         expect(now().refusal == 6 && is_empty(now()), "look on no state");
+        expect(is_refusal(door.hit(image, DOOR_IMAGE, (uint8_t)byte), 6, 0), "hit on no state");
         expect(is_refusal(door.read(image, DOOR_IMAGE, 0), 6, 0), "read on no state");
         expect(is_refusal(door.write(image, DOOR_IMAGE, CON1, 0), 6, 0), "write on no state");
         expect(is_refusal(door.sample(image, DOOR_IMAGE, 3), 6, 0), "sample on no state");
@@ -962,6 +1157,10 @@ int main(void)
     rule_cut();
     rule_flag();
     rule_case();
+    rule_hit();
+    rule_taken();
+    rule_same_way();
+    rule_registers();
     refusals_single();
     refusals_run();
     images(1000000);

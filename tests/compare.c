@@ -12,7 +12,8 @@ enum { BUF, STAT, CON1, CON2, CON3, ADD, MSK, FLAG, REGISTERS };
 enum { QUIET, ADDRESS, DATA, HELD_BEFORE, SLOT, HELD_SENDING, SENDING, MASTER_ACK, PHASES };
 
 /* The shortest trace to a spoiled place has 24 steps; one that is not much longer is short. A long run has to reach every
-   refusal, every phase, every case of a slot and every moment around a refused byte. */
+   refusal, every phase, every case of a slot, every answer to which address hit, and every moment around a refused byte and a
+   general call. */
 enum { REFUSALS = 9, MODE_UNDER_WAY = 8, NO_WIRE = 255, NO_ITEM = 255, SHORT_TRACE = 30, LONG_RUN = 100000 };
 
 /* All that the comparison keeps; the counts tell what was reached, so that a pass says something. */
@@ -26,7 +27,7 @@ typedef struct {
     int difference;
     unsigned long steps, wanted, kinds[PAIR_KINDS], refused[REFUSALS], phases[PHASES];
     unsigned long with_1110;      /* steps after which the module runs with SSPM 1110 */
-    unsigned long slots[SLOT_CASES], moments[MOMENTS];
+    unsigned long slots[SLOT_CASES], hits[HITS], moments[MOMENTS];
 } bench;
 
 /* ---- Steps ---- */
@@ -63,6 +64,8 @@ static void count(bench *b, const pair_step *s, const uint8_t *before)
     b->with_1110 += (v->con1 & 0x2F) == 0x2E;
     if (v->phase == SLOT)
         b->slots[slot_case(v->sda_pulled, v->refused)]++;
+    if (refusal == 0 && s->kind == PAIR_HIT && b->both.second.outcome.value < HITS)
+        b->hits[b->both.second.outcome.value]++;
     if (refusal == 0 && s->kind < PAIR_RUN) /* a sample, a handler call, a read or a write */
         moments_count(b->moments, before, b->both.second.room + PAIR_GUARD);
 }
@@ -222,8 +225,8 @@ static void odd_window(bench *b, pair_step *s)
 /* A step with something wrong in it, or two things. */
 static void odd_step(bench *b)
 {
-    static const uint8_t kinds[6] = {PAIR_SAMPLE, PAIR_CALL, PAIR_READ, PAIR_WRITE, PAIR_SETUP, PAIR_RUN};
-    pair_step s = step_of(b, kinds[traffic_below(&b->source, 6)]);
+    static const uint8_t kinds[7] = {PAIR_SAMPLE, PAIR_CALL, PAIR_READ, PAIR_WRITE, PAIR_SETUP, PAIR_RUN, PAIR_HIT};
+    pair_step s = step_of(b, kinds[traffic_below(&b->source, 7)]);
 
     s.number = (uint8_t)traffic_below(&b->source, 256);
     s.value = (uint8_t)traffic_below(&b->source, 256);
@@ -304,6 +307,22 @@ static void find(bench *b)
     if (s.count > 0 && traffic_once_in(&b->source, 12))
         s.bytes[traffic_below(&b->source, s.count)] = (uint8_t)traffic_below(&b->source, 256);
     s.start = traffic_once_in(&b->source, 20) ? some_edge(b) : traffic_below(&b->source, s.count + 1u);
+    make(b, &s);
+}
+
+/* Whether a first byte has come with all its bits and waits for its fall. */
+static int first_byte_whole(const bench *b)
+{
+    return b->both.second.view.phase == ADDRESS && b->both.second.view.bits == 8;
+}
+
+/* Which address a first byte hits: the one that is whole, else any that is worth asking about. */
+static void hit(bench *b)
+{
+    unsigned pick = first_byte_whole(b) ? (unsigned)HIT_SHOWN : traffic_below(&b->source, HIT_BYTES);
+    pair_step s = step_of(b, PAIR_HIT);
+
+    s.value = hit_byte(b->both.second.room + PAIR_GUARD, pick, traffic_below(&b->source, 256));
     make(b, &s);
 }
 
@@ -416,6 +435,8 @@ static int take(void *to, unsigned item)
         place(b);
     if (traffic_once_in(&b->source, 60))
         find(b);
+    if (traffic_once_in(&b->source, first_byte_whole(b) ? 2 : 40))
+        hit(b);
     if (!(v->con1 & 0x20) && traffic_once_in(&b->source, 8))
         switch_on(b);
     if ((v->phase == HELD_BEFORE || v->phase == SLOT) && traffic_once_in(&b->source, 3))
@@ -435,7 +456,7 @@ static void fresh(bench *b)
     unsigned pick = traffic_below(&b->source, 8), i;
 
     r->count = 0;
-    r->add = (uint8_t)(traffic_once_in(&b->source, 3) ? 0x30 : traffic_below(&b->source, 256));
+    r->add = traffic_add(&b->source);
     r->n = (uint16_t)(pick < 6 ? lengths[pick] : 1 + traffic_below(&b->source, 256));
     r->start = traffic_below(&b->source, PAIR_BUFFER - r->n + 1u);
     for (i = 0; i < PAIR_BUFFER; i++)
@@ -468,7 +489,7 @@ static void round_once(bench *b)
 
 /* ---- The whole ---- */
 
-/* Whether every refusal, every phase, the mode 1110, every case of a slot and every moment came up. */
+/* Whether every refusal, every phase, the mode 1110, every case of a slot, every address hit and every moment came up. */
 static int all_reached(const bench *b)
 {
     int i;
@@ -479,7 +500,7 @@ static int all_reached(const bench *b)
     for (i = 0; i < PHASES; i++)
         if (b->phases[i] == 0)
             return 0;
-    return b->with_1110 > 0 && slots_all(b->slots) && moments_all(b->moments);
+    return b->with_1110 > 0 && slots_all(b->slots) && hits_all(b->hits) && moments_all(b->moments);
 }
 
 /* Tells what was reached. */
@@ -487,9 +508,9 @@ static void tell_reach(const bench *b)
 {
     int i;
 
-    printf("# samples %lu calls %lu reads %lu writes %lu runs %lu placed %lu setups %lu finds %lu\n",
+    printf("# samples %lu calls %lu reads %lu writes %lu runs %lu placed %lu setups %lu hits %lu finds %lu\n",
            b->kinds[PAIR_SAMPLE], b->kinds[PAIR_CALL], b->kinds[PAIR_READ], b->kinds[PAIR_WRITE],
-           b->kinds[PAIR_RUN], b->kinds[PAIR_PLACE], b->kinds[PAIR_SETUP], b->kinds[PAIR_FIND]);
+           b->kinds[PAIR_RUN], b->kinds[PAIR_PLACE], b->kinds[PAIR_SETUP], b->kinds[PAIR_HIT], b->kinds[PAIR_FIND]);
     printf("# refused");
     for (i = 1; i < REFUSALS; i++)
         printf(" %d: %lu", i, b->refused[i]);
@@ -499,6 +520,8 @@ static void tell_reach(const bench *b)
            b->phases[MASTER_ACK]);
     printf("# ");
     slots_tell(b->slots);
+    printf("; ");
+    hits_tell(b->hits);
     printf("; ");
     moments_tell(b->moments);
 }

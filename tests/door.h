@@ -1,4 +1,4 @@
-/* The door a test goes through: a table of eight functions whose prefix is chosen when the test is compiled. */
+/* The door a test goes through: a table of nine functions whose prefix is chosen when the test is compiled. */
 #ifndef DOOR_H
 #define DOOR_H
 
@@ -23,7 +23,7 @@ typedef DOOR(answer) door_answer;
 typedef DOOR(part) door_part;
 typedef DOOR(view) door_view;
 
-/* The eight functions. */
+/* The nine functions. */
 typedef struct {
     door_answer (*setup)(uint8_t *state, size_t state_length, uint8_t add, uint64_t n);
     door_answer (*read)(uint8_t *state, size_t state_length, uint32_t number);
@@ -35,11 +35,12 @@ typedef struct {
                        uint8_t *buffer, size_t buffer_length, uint64_t start, uint64_t n,
                        const uint8_t *trace, size_t trace_length);
     door_view (*look)(const uint8_t *state, size_t state_length);
+    door_answer (*hit)(const uint8_t *state, size_t state_length, uint8_t byte);
     door_part (*find)(const uint8_t *record, size_t record_length, uint64_t item);
 } door_table;
 
 static const door_table door = {
-    DOOR(setup), DOOR(read), DOOR(write), DOOR(sample), DOOR(call), DOOR(run), DOOR(look), DOOR(find)
+    DOOR(setup), DOOR(read), DOOR(write), DOOR(sample), DOOR(call), DOOR(run), DOOR(look), DOOR(hit), DOOR(find)
 };
 
 /* The length of a state image. */

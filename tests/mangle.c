@@ -1,5 +1,6 @@
 /* Mangles images that random traffic reached: each is refused with 6 and left alone by every call, or taken as a state. */
 #include "door.h"
+#include "hits.h"
 #include "slots.h"
 #include "traffic.h"
 #include "write_refusal.h"
@@ -18,7 +19,7 @@ enum { BUFFER = 320, TRACE = 24, PER_ITEM = 3, EARLIER = 64 };
 /* What a call on bytes that are no state's must have, and a write that changes the mode under way. */
 enum { NO_STATE = 6, MODE_UNDER_WAY = 8 };
 
-/* The calls that a mangled image goes through, beside look. */
+/* The calls that a mangled image goes through, beside look and hit. */
 enum { SETUP, READ, WRITE, SAMPLE, CALL, RUN };
 static const char *const names[6] = {"setup", "read", "write", "sample", "call", "run"};
 
@@ -42,6 +43,7 @@ typedef struct {
     uint8_t untouched[BUFFER];    /* the buffer as it was before a call */
     unsigned long wanted, mutations, taken, refused, modes, calls, failures;
     unsigned long slots[SLOT_CASES];   /* mutations taken as a slot, by its case */
+    unsigned long hits[HITS];          /* answers to which address a first byte hits */
 } bench;
 
 /* A window with all that a call on it needs. */
@@ -201,6 +203,19 @@ static void check(bench *b, const mangled *m, const window *w, unsigned refusal,
         fail(b, m, names[call]);
 }
 
+/* Which address a first byte hits: by the registers alone on a state, else refused. */
+static void check_hit(bench *b, const mangled *m, unsigned refusal)
+{
+    unsigned pick = below(b, HIT_BYTES), byte = hit_byte(m->bytes, pick, below(b, 256));
+    unsigned which = refusal == 0 ? hit_of(m->bytes, byte) : 0;
+    door_answer a = door.hit(lay(b, m), m->length, (uint8_t)byte);
+
+    if (a.refusal != refusal || a.value != which || a.item != 0 || !left_alone(b))
+        fail(b, m, "hit");
+    if (refusal == 0)
+        b->hits[which]++;
+}
+
 /* Register access and a sample; on a state, which has no refusal, the write can still have one. */
 static void single_calls(bench *b, const mangled *m, const window *w, unsigned refusal)
 {
@@ -285,6 +300,7 @@ static void try_one(bench *b)
     if (state && (m.length != DOOR_IMAGE || v.n != m.bytes[AT_N] + 256u * m.bytes[AT_N + 1]))
         fail(b, &m, "look takes another length or tells another n");
     check_slot(b, &m, &v);
+    check_hit(b, &m, refusal);
     w = some_window(b, state, v.n);
     single_calls(b, &m, &w, refusal);
     window_calls(b, &m, &w, refusal);
@@ -349,7 +365,7 @@ static void fresh(bench *b)
     unsigned i;
 
     b->n = lengths[below(b, 6)];
-    b->source.add = (uint8_t)below(b, 256);
+    b->source.add = traffic_add(&b->source);
     b->source.n = b->n;
     b->source.left = 4000;
     b->source.held = 0;
@@ -381,6 +397,8 @@ int main(int argc, char **argv)
     }
     printf("mutations %lu refused %lu taken %lu changes of mode %lu ", b.mutations, b.refused, b.taken, b.modes);
     slots_tell(b.slots);
+    printf(" ");
+    hits_tell(b.hits);
     printf(" calls %lu failures %lu\n", b.calls, b.failures);
-    return b.failures == 0 && b.taken > 0 && b.refused > 0 && b.modes > 0 && slots_all(b.slots) ? 0 : 1;
+    return b.failures == 0 && b.taken > 0 && b.refused > 0 && b.modes > 0 && slots_all(b.slots) && hits_all(b.hits) ? 0 : 1;
 }

@@ -1,8 +1,9 @@
-/* The moments around a refused byte that random tests have to come to, so that a pass says something: counted straight off
-   the state's image before and after a step. */
+/* The moments around a refused byte and a general call that random tests have to come to, so that a pass says something:
+   counted straight off the state's image before and after a step. */
 #ifndef MOMENTS_H
 #define MOMENTS_H
 
+#include "hits.h"
 #include "slots.h"
 
 #include <stdint.h>
@@ -18,8 +19,28 @@ enum {
     MOMENT_CLEARED,   /* a refused hold is released after SSPOV was cleared in it, or with that */
     MOMENT_CUT,       /* a Start or a Stop in a refused slot */
     MOMENT_OFF,       /* a refused slot is switched off */
+    MOMENT_GENERAL,   /* a general call is taken at its eighth fall */
+    MOMENT_OWN_00,    /* 00 is taken as the module's own address, with GCEN 1 */
+    MOMENT_NOT_00,    /* 00 is not taken, with GCEN 0 */
+    MOMENT_NOT_01,    /* 01 is not taken, with GCEN 1 */
     MOMENTS
 };
+
+/* Counts the eighth fall of a first byte 00 or 01. */
+static void moments_count_first(unsigned long *times, const uint8_t *before, const uint8_t *after)
+{
+    enum { CON2 = 3, PHASE = 8, COUNT, BYTE, WIRE = 12, GCEN = 0x80, QUIET = 0, ADDRESS };
+    int gcen = (before[CON2] & GCEN) != 0, taken = after[PHASE] != QUIET;
+    unsigned which;
+
+    if (before[PHASE] != ADDRESS || before[COUNT] != 8 || after[WIRE] > 1 || before[BYTE] > 1)
+        return;
+    which = hit_of(before, before[BYTE]);
+    times[MOMENT_GENERAL] += taken && which == HIT_GENERAL_CALL;
+    times[MOMENT_OWN_00] += taken && which == HIT_OWN && before[BYTE] == 0 && gcen;
+    times[MOMENT_NOT_00] += !taken && before[BYTE] == 0 && !gcen;
+    times[MOMENT_NOT_01] += !taken && before[BYTE] == 1 && gcen;
+}
 
 /* Counts what one sample, register access or handler call brought, from a state to the one after it. Every refused intake
    leaves BF and SSPOV 1: where one is 0 at the release, software has cleared it in the hold. */
@@ -40,6 +61,7 @@ static void moments_count(unsigned long *times, const uint8_t *before, const uin
     times[MOMENT_CLEARED] += released && !(after[CON1] & SSPOV);
     times[MOMENT_CUT] += slot == SLOT_REFUSED && was_high && is_high && after[PHASE] != SLOT && (after[CON1] & SSPEN);
     times[MOMENT_OFF] += slot == SLOT_REFUSED && !(after[CON1] & SSPEN);
+    moments_count_first(times, before, after);
 }
 
 /* Whether each of them has come. */
@@ -57,9 +79,12 @@ static int moments_all(const unsigned long *times)
 static void moments_tell(const unsigned long *times)
 {
     printf("refused ninth falls %lu, with R/W 1 %lu; declined ninth falls %lu; refused holds released with ACKDT 1 %lu,"
-           " with BUF read %lu, with SSPOV cleared %lu; refused slots cut by a Start or Stop %lu, switched off %lu\n",
+           " with BUF read %lu, with SSPOV cleared %lu; refused slots cut by a Start or Stop %lu, switched off %lu;"
+           " general calls taken %lu, 00 taken as own with GCEN 1 %lu, 00 not taken with GCEN 0 %lu,"
+           " 01 not taken with GCEN 1 %lu\n",
            times[MOMENT_REFUSED], times[MOMENT_ASKED], times[MOMENT_DECLINED], times[MOMENT_ACKDT],
-           times[MOMENT_READ], times[MOMENT_CLEARED], times[MOMENT_CUT], times[MOMENT_OFF]);
+           times[MOMENT_READ], times[MOMENT_CLEARED], times[MOMENT_CUT], times[MOMENT_OFF],
+           times[MOMENT_GENERAL], times[MOMENT_OWN_00], times[MOMENT_NOT_00], times[MOMENT_NOT_01]);
 }
 
 #endif

@@ -100,6 +100,8 @@ static pair_outcome archive_call(pair_side *a, const pair_step *s)
                                         s->bytes, s->count));
     case PAIR_SETUP:
         return of_archive(wherryoar_setup(image, length, s->number, s->n));
+    case PAIR_HIT:
+        return of_archive(wherryoar_hit(image, length, s->value));
     default:
         return part_of_archive(wherryoar_find(s->bytes, s->count, s->start));
     }
@@ -125,6 +127,8 @@ static pair_outcome second_call_for(pair_side *a, const pair_step *s)
                                     s->bytes, s->count));
     case PAIR_SETUP:
         return of_second(second_setup(image, length, s->number, s->n));
+    case PAIR_HIT:
+        return of_second(second_hit(image, length, s->value));
     default:
         return part_of_second(second_find(s->bytes, s->count, s->start));
     }
@@ -164,7 +168,8 @@ static int compared(pair *p)
     return same_view(&a->view, &b->view) ? PAIR_SAME : PAIR_VIEW;
 }
 
-/* Puts an image into both states; one that is no state's is looked at and taken out again. */
+/* Puts an image into both states and asks with 00 which address hits; one that is no state's is looked at and taken out
+   again. */
 static int place(pair *p, const pair_step *s)
 {
     uint8_t before[PAIR_IMAGE];
@@ -173,10 +178,8 @@ static int place(pair *p, const pair_step *s)
     memcpy(before, p->second.room + PAIR_GUARD, PAIR_IMAGE);
     memcpy(p->archive.room + PAIR_GUARD, s->bytes, PAIR_IMAGE);
     memcpy(p->second.room + PAIR_GUARD, s->bytes, PAIR_IMAGE);
-    memset(&p->archive.outcome, 0, sizeof p->archive.outcome);
-    memset(&p->second.outcome, 0, sizeof p->second.outcome);
-    p->archive.outcome.refusal = wherryoar_look(s->bytes, PAIR_IMAGE).refusal;
-    p->second.outcome.refusal = second_look(s->bytes, PAIR_IMAGE).refusal;
+    p->archive.outcome = of_archive(wherryoar_hit(s->bytes, PAIR_IMAGE, 0));
+    p->second.outcome = of_second(second_hit(s->bytes, PAIR_IMAGE, 0));
     differ = compared(p);
     if (differ == PAIR_SAME && p->second.outcome.refusal != 0) {
         memcpy(p->archive.room + PAIR_GUARD, before, PAIR_IMAGE);

@@ -12,13 +12,13 @@ enum { PAIR_IMAGE = 48, PAIR_GUARD = 16, PAIR_LONGEST = 64, PAIR_ROOM = PAIR_GUA
 enum { PAIR_BUFFER = 320, PAIR_BYTES = 64 };
 
 /* What a step calls. */
-enum { PAIR_SAMPLE, PAIR_CALL, PAIR_READ, PAIR_WRITE, PAIR_RUN, PAIR_PLACE, PAIR_SETUP, PAIR_FIND, PAIR_KINDS };
+enum { PAIR_SAMPLE, PAIR_CALL, PAIR_READ, PAIR_WRITE, PAIR_RUN, PAIR_PLACE, PAIR_SETUP, PAIR_HIT, PAIR_FIND, PAIR_KINDS };
 
 /* One step; a field that its call has no use for is 0. */
 typedef struct {
     uint8_t kind;
     uint8_t number;             /* sample: the level; read, write: the register; setup: ADD */
-    uint8_t value;              /* write: the byte */
+    uint8_t value;              /* write: the byte; hit: the first byte */
     uint8_t state_length;       /* the length lent for the state */
     uint8_t count;              /* run, find: how many of the bytes below */
     uint8_t bytes[PAIR_BYTES];  /* run: the trace; find: the record; place: the image that is put in */

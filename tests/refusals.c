@@ -1,5 +1,6 @@
 /* Checks through the door every refusal by each of its causes, alone and beside every other, and windows at every edge. */
 #include "door.h"
+#include "hits.h"
 #include "slots.h"
 #include "write_refusal.h"
 
@@ -152,6 +153,7 @@ static void all_refuse(size_t length, const char *what, unsigned long more)
 {
     static const uint8_t numbers[6] = {CON3, CON2, CON1, CON1, CON1, 8}, values[6] = {0x00, 0x1E, 0x2F, 0x36, 0x3E, 0xFF};
     static const uint8_t levels[6] = {0, 1, 2, 3, 4, 255}, bad[3] = {3, 5, 4};
+    static const uint8_t first_bytes[6] = {0x00, 0x01, 0x30, 0x31, 0x3E, 0xFF};
     static const uint64_t starts[3] = {7, BUFFER, UINT64_MAX}, lengths[3] = {N, 0, UINT64_MAX};
     unsigned i, j;
 
@@ -162,6 +164,7 @@ static void all_refuse(size_t length, const char *what, unsigned long more)
         expect(refused(door.read(image, length, numbers[i]), 6, 0), what, more);
         expect(refused(door.write(image, length, numbers[i], values[i]), 6, 0), what, more);
         expect(refused(door.sample(image, length, levels[i]), 6, 0), what, more);
+        expect(refused(door.hit(image, length, first_bytes[i]), 6, 0), what, more);
     }
     for (i = 0; i < 3; i++)
         for (j = 0; j < 3; j++) {
@@ -289,8 +292,27 @@ static void spoil_rest(void)
     }
     expect(door.look(NULL, 0).refusal == 6 && door.read(NULL, 0, 0).refusal == 6, "no bytes at all", 0);
     expect(door.sample(NULL, 0, 0).refusal == 6 && door.write(NULL, 0, 0, 0).refusal == 6, "no bytes at all", 0);
+    expect(door.hit(NULL, 0, 0).refusal == 6, "no bytes at all, hit", 0);
     expect(door.call(NULL, 0, NULL, 0, 0, 1).refusal == 6, "no bytes at all, call", 0);
     expect(door.run(NULL, 0, NULL, 0, 0, 1, NULL, 0).refusal == 6, "no bytes at all, run", 0);
+}
+
+/* The bytes in the room are taken as a state: by look, and by hit for every first byte, GCEN 0 and 1, which answers by the
+   registers alone and leaves all alone. */
+static void both_take(const char *what, unsigned long more)
+{
+    unsigned byte, gcen;
+
+    expect(door.look(image, DOOR_IMAGE).refusal == 0, what, more);
+    for (gcen = 0; gcen <= 0x80; gcen += 0x80) {
+        image[CON2] = (uint8_t)((image[CON2] & 0x7F) | gcen);
+        memcpy(kept, room, ROOM);
+        for (byte = 0; byte < 256; byte++) {
+            door_answer a = door.hit(image, DOOR_IMAGE, (uint8_t)byte);
+
+            expect(a.refusal == 0 && a.item == 0 && a.value == hit_of(image, byte) && left_alone(), what, more);
+        }
+    }
 }
 
 /* The states themselves are taken, and so are the neighbours of what is refused. */
@@ -304,12 +326,14 @@ static void neighbours(void)
     };
     int i;
 
-    for (i = 0; i < ALL_STATES; i++)
-        expect(door.look(states[i], DOOR_IMAGE).refusal == 0, "a state", (unsigned long)i);
+    for (i = 0; i < ALL_STATES; i++) {
+        lay(states[i]);
+        both_take("a state", (unsigned long)i);
+    }
     for (i = 0; i < 14; i++) {
         lay(states[fine[i].which]);
         image[fine[i].place] = (uint8_t)((image[fine[i].place] & fine[i].keep) | fine[i].set);
-        expect(door.look(image, DOOR_IMAGE).refusal == 0, "the neighbour of a refused image", (unsigned long)i);
+        both_take("the neighbour of a refused image", (unsigned long)i);
     }
     lay(states[FRESH]);
     image[AT_N] = 0;

@@ -197,6 +197,8 @@ static void tell_step(const round_of_steps *r, const pair_step *s, const pair_ou
         tell_bytes(s->bytes, PAIR_IMAGE);
     } else if (s->kind == PAIR_SETUP) {
         printf("setup add %02X n %llu", s->number, (unsigned long long)s->n);
+    } else if (s->kind == PAIR_HIT) {
+        printf("hit %02X", s->value);
     } else {
         printf("find %llu in ", (unsigned long long)s->start);
         tell_items(s);
@@ -218,6 +220,8 @@ static void tell_outcome(const pair_step *s, const pair_side *side)
         return;
     if (s->kind == PAIR_FIND)
         printf("start %llu length %llu", (unsigned long long)o->start, (unsigned long long)o->length);
+    else if (s->kind == PAIR_HIT)
+        printf("%llu", (unsigned long long)o->value);
     else
         tell_view(&side->view);
 }

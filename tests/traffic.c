@@ -112,14 +112,24 @@ static int byte(traffic *t, unsigned value, unsigned ninth)
 
 /* ---- Messages ---- */
 
-/* An address byte: mostly the device's, both directions; else the general call or any. */
+/* An ADD: 30, any, or now and then 00 or 01, with which the byte 00 is the device's own address. */
+uint8_t traffic_add(traffic *t)
+{
+    if (traffic_once_in(t, 3))
+        return 0x30;
+    return (uint8_t)traffic_below(t, traffic_once_in(t, 4) ? 2 : 256);
+}
+
+/* An address byte: mostly the device's, both directions; else the general call, 01, which is none, or any. */
 static unsigned some_address(traffic *t)
 {
-    unsigned pick = traffic_below(t, 10);
+    unsigned pick = traffic_below(t, 12);
 
     if (pick < 8)
         return (t->add & 0xFEu) | (pick & 1);
-    return pick == 8 ? 0 : traffic_below(t, 256);
+    if (pick < 10)
+        return 0x00;
+    return pick == 10 ? 0x01 : traffic_below(t, 256);
 }
 
 /* A pointer byte, mostly near the ends of the memory. */

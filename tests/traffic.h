@@ -23,6 +23,9 @@ typedef struct {
 unsigned traffic_below(traffic *t, unsigned limit);
 int traffic_once_in(traffic *t, unsigned times);
 
+/* An ADD for a device. */
+uint8_t traffic_add(traffic *t);
+
 /* A message, well formed unless cut short; it ends with a Stop, with the next Start, or with nothing. */
 void traffic_message(traffic *t);
 

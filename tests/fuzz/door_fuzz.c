@@ -35,8 +35,8 @@ typedef struct {
     uint8_t buffer[LONGEST_BUFFER];
 } program;
 
-/* How often the second program came to each moment. */
-static unsigned long reached[MOMENTS];
+/* How often the second program came to each moment, and a hit to each answer. */
+static unsigned long reached[MOMENTS], hits[HITS];
 
 /* ---- From bytes to calls ---- */
 
@@ -176,6 +176,14 @@ static void register_access(source *s, const program *p, step *made)
         made->value = con1_value(p, made->value);
 }
 
+/* A first byte worth asking about. */
+static uint8_t first_byte(source *s, const program *p)
+{
+    unsigned pick = next(s) % HIT_BYTES;
+
+    return hit_byte(p->image, pick, next(s));
+}
+
 /* The next call. */
 static step next_step(source *s, const program *p, uint8_t *bytes)
 {
@@ -202,6 +210,8 @@ static step next_step(source *s, const program *p, uint8_t *bytes)
         made.value = next(s) < 200 ? 0x30 : next(s);
     if (made.which == STEP_SAMPLE)
         made.value = (uint8_t)number(s, next(s) % 4);
+    if (made.which == STEP_HIT)
+        made.value = first_byte(s, p);
     return made;
 }
 
@@ -260,8 +270,11 @@ static outcome make(program *p, const step *s)
 /* Which refusals each function can have, a bit for each. */
 static const unsigned refusals[STEPS] = {
     1u << 6 | 1u << 5, 1u << 6 | 1u << 1, 1u << 6 | 1u << 1 | 1u << 2 | 1u << 3 | 1u << 8, 1u << 6 | 1u << 4,
-    1u << 6 | 1u << 5, 1u << 6 | 1u << 5 | 1u << 4, 1u << 6, 1u << 4 | 1u << 7
+    1u << 6 | 1u << 5, 1u << 6 | 1u << 5 | 1u << 4, 1u << 6, 1u << 4 | 1u << 7, 1u << 6
 };
+
+/* How many values each function can answer beside no refusal. */
+static const unsigned values[STEPS] = {1, 256, 1, 1, 1, 1, 1, 1, HITS};
 
 /* The number of the first byte above a limit, or the length. */
 static size_t first_above(const uint8_t *bytes, size_t length, unsigned limit)
@@ -282,7 +295,7 @@ static void check_answer(const step *s, const outcome *o)
 
     promise(o->refusal <= HIGHEST_REFUSAL && (o->refusal == 0 || (refusals[s->which] >> o->refusal & 1)),
             "no refusal of this function");
-    promise(o->value == 0 || (s->which == STEP_READ && o->refusal == 0 && o->value < 256), "a value where there is none");
+    promise(o->value == 0 || (o->refusal == 0 && o->value < values[s->which]), "a value where there is none");
     if (named)
         promise(o->item < s->bytes_length && o->item == first_above(s->bytes, s->bytes_length, highest), "first bad item");
     else
@@ -300,7 +313,16 @@ static void check_write(const program *before, const step *s, const outcome *o)
         promise(o->refusal == write_refusal(before->image, s->number, s->value), "another refusal of a write");
 }
 
-/* A refusal leaves all, a look and a find too; the handler leaves what is outside its window. */
+/* Which address a first byte hits is by the registers of the state alone. */
+static void check_hit(const program *before, const step *s, const outcome *o)
+{
+    if (s->which != STEP_HIT || o->refusal != 0)
+        return;
+    promise(o->value == hit_of(before->image, s->value), "another address hit");
+    hits[o->value]++;
+}
+
+/* A refusal leaves all, a look, a find and a hit too; the handler leaves what is outside its window. */
 static void check_kept(const program *before, const program *after, const step *s, const outcome *o)
 {
     int changes = o->refusal == 0 && s->which < STEP_LOOK;
@@ -372,6 +394,7 @@ static outcome made_well(program *p, const step *s)
 
     check_answer(s, &o);
     check_write(&before, s, &o);
+    check_hit(&before, s, &o);
     check_kept(&before, p, s, &o);
     check_part(s, &o);
     check_state(p, s, &o);
@@ -432,11 +455,13 @@ static outcome made_by_all(program *first, program *other, const step *s)
     return o;
 }
 
-/* Tells the moments around a refused byte; answers whether each has come. */
+/* Tells the answers of hit and the moments around a refused byte and a general call; answers whether each has come. */
 int target_reached(void)
 {
+    hits_tell(hits);
+    printf("; ");
     moments_tell(reached);
-    return moments_all(reached);
+    return hits_all(hits) && moments_all(reached);
 }
 
 /* All calls of one input; an image that was no state is put back after the call that it was refused by. */

@@ -15,7 +15,7 @@ static void see_view(const door_view *v, uint64_t *seen)
     memcpy(seen, fields, sizeof fields);
 }
 
-/* The two functions that change nothing. */
+/* The view and the part. */
 static outcome see(const step *s, const uint8_t *image)
 {
     outcome o;
@@ -37,8 +37,8 @@ static outcome see(const step *s, const uint8_t *image)
     return o;
 }
 
-/* The six that change a state. */
-static door_answer change(const step *s, uint8_t *image, uint8_t *buffer)
+/* Those that give an answer: the six that change a state, and hit. */
+static door_answer ask(const step *s, uint8_t *image, uint8_t *buffer)
 {
     size_t length = s->state_length;
 
@@ -53,6 +53,8 @@ static door_answer change(const step *s, uint8_t *image, uint8_t *buffer)
         return door.sample(image, length, s->value);
     case STEP_CALL:
         return door.call(image, length, buffer, s->buffer_length, s->start, s->n);
+    case STEP_HIT:
+        return door.hit(image, length, s->value);
     default:
         return door.run(image, length, buffer, s->buffer_length, s->start, s->n, s->bytes, s->bytes_length);
     }
@@ -67,7 +69,7 @@ outcome DOOR(step)(const step *s, uint8_t *image, uint8_t *buffer)
     if (s->which == STEP_LOOK || s->which == STEP_FIND)
         return see(s, image);
     memset(&o, 0, sizeof o);
-    a = change(s, image, buffer);
+    a = ask(s, image, buffer);
     o.refusal = a.refusal;
     o.value = a.value;
     o.item = a.item;

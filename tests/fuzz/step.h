@@ -5,14 +5,14 @@
 #include <stddef.h>
 #include <stdint.h>
 
-/* Which of the eight functions. */
-enum { STEP_SETUP, STEP_READ, STEP_WRITE, STEP_SAMPLE, STEP_CALL, STEP_RUN, STEP_LOOK, STEP_FIND, STEPS };
+/* Which of the nine functions; from look on they change nothing. */
+enum { STEP_SETUP, STEP_READ, STEP_WRITE, STEP_SAMPLE, STEP_CALL, STEP_RUN, STEP_LOOK, STEP_FIND, STEP_HIT, STEPS };
 
 /* What it is called with; each function takes what it knows. */
 typedef struct {
     int which;
     size_t state_length;
-    uint8_t number, value; /* setup: value is ADD; sample: value is the level */
+    uint8_t number, value; /* setup: value is ADD; sample: value is the level; hit: value is the first byte */
     size_t buffer_length;
     uint64_t start, n;     /* setup: n */
     const uint8_t *bytes;  /* a trace or a record */

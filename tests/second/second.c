@@ -33,6 +33,9 @@ enum { QUIET, ADDRESS, DATA, HELD_BEFORE, SLOT, HELD_SENDING, SENDING, MASTER_AC
 /* The three cases of an acknowledge slot: SDA is pulled; BF or SSPOV refused the intake; ACKDT alone declined the byte. */
 enum { PULLING = 1, REFUSED, DECLINED };
 
+/* Which address a first byte hits. */
+enum { NO_HIT = 0, OWN_HIT = 1, GENERAL_CALL = 2 };
+
 /* Refusals by their numbers. */
 enum {
     DONE = 0, NO_REGISTER = 1, MASTER_BITS = 2, NO_SUCH_MODE = 3,
@@ -229,20 +232,20 @@ static void intake(module *m, uint8_t byte, int holding)
     }
 }
 
-/* Whether an address matches: by ADD under MSK in bits 7..1, or as the general call. */
-static int address_matches(const module *m, uint8_t byte)
+/* Which address a first byte hits: its own by ADD under MSK in bits 7..1, else with GCEN the general call. */
+static int address_hit(const module *m, uint8_t byte)
 {
     if (((byte ^ m->reg[ADD]) & m->reg[MSK] & 0xFE) == 0)
-        return 1;
-    return any(m, CON2, GCEN) && byte == 0;
+        return OWN_HIT;
+    return any(m, CON2, GCEN) && byte == 0 ? GENERAL_CALL : NO_HIT;
 }
 
-/* Eighth fall of an address. */
+/* Eighth fall of an address: whichever it hits is taken, and in the same way. */
 static void address_ended(module *m)
 {
     uint8_t byte = m->byte;
 
-    if (!address_matches(m, byte)) {
+    if (address_hit(m, byte) == NO_HIT) {
         enter(m, QUIET);
         return;
     }
@@ -789,6 +792,16 @@ second_view second_look(const uint8_t *state, size_t state_length)
     v.n = m.n;
     v.pointer = m.pointer;
     return v;
+}
+
+/* Which address a first byte hits by the registers, enabled or not; changes nothing. */
+second_answer second_hit(const uint8_t *state, size_t state_length, uint8_t byte)
+{
+    module m;
+
+    if (!decode(&m, state, state_length))
+        return answer(NO_STATE, 0, 0);
+    return answer(DONE, (uint8_t)address_hit(&m, byte), 0);
 }
 
 /* ---- The finder ---- */

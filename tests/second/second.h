@@ -9,7 +9,8 @@
 extern "C" {
 #endif
 
-/* An answer: refusal 0 means done; value is the byte a read gave; item is the first bad item for refusal 4 in a run. */
+/* An answer: refusal 0 means done; value is the byte a read gave, or which address was hit (0 none, 1 own, 2 general call);
+   item is the first bad item for refusal 4 in a run. */
 typedef struct {
     uint32_t refusal;
     uint32_t value;
@@ -48,6 +49,7 @@ second_answer second_run(uint8_t *state, size_t state_length,
                          uint8_t *buffer, size_t buffer_length, uint64_t start, uint64_t n,
                          const uint8_t *trace, size_t trace_length);
 second_view second_look(const uint8_t *state, size_t state_length);
+second_answer second_hit(const uint8_t *state, size_t state_length, uint8_t byte);
 second_part second_find(const uint8_t *record, size_t record_length, uint64_t item);
 
 #ifdef __cplusplus
