@@ -18,7 +18,8 @@ ADD, LENGTH = 0x30, 32
 class Device:
     """What a memory of 32 bytes at address 30 does with whole bytes: the events of a recipe, told without levels."""
 
-    def __init__(self):
+    def __init__(self, general_call):
+        self.general_call = general_call  # it answers the general call too
         self.memory = [0] * LENGTH
         self.pointer = 0
         self.inside = self.first = self.due = False
@@ -35,11 +36,16 @@ class Device:
         self.laid_out = self.memory[self.pointer]
         self.pointer = (self.pointer + 1) % LENGTH
 
+    def letter(self, byte):
+        """D for a later byte; G for a first one that is the general call, where that is answered; A for any other address."""
+        if not self.first:
+            return "D"
+        return "G" if self.general_call and byte == 0 else "A"
+
     def address(self, byte):
-        if byte >> 1 == ADD >> 1:
-            self.turn, self.due = ("read", False) if byte & 1 else ("write", True)
-            if self.turn == "read":
-                self.lay_out()
+        self.turn, self.due = ("read", False) if byte & 1 else ("write", True)
+        if self.turn == "read":
+            self.lay_out()
 
     def written(self, byte):
         if self.due:
@@ -58,12 +64,13 @@ class Device:
         """A whole byte with its ninth slot; its event has the pointer from before the handler call that follows."""
         if not self.inside:
             return
-        own = self.first and driven >> 1 == ADD >> 1
+        letter = self.letter(driven)
+        hit = letter == "G" or (letter == "A" and driven >> 1 == ADD >> 1)
         reading = not self.first and self.turn == "read"
         byte = driven & self.laid_out if reading else driven
-        answer = 0 if own or (self.turn == "write" and not self.first) else ninth
-        self.events.append(("A" if self.first else "D", f"{byte:02X}", str(answer), str(self.pointer)))
-        if self.first:
+        answer = 0 if hit or (self.turn == "write" and not self.first) else ninth
+        self.events.append((letter, f"{byte:02X}", str(answer), str(self.pointer)))
+        if hit:
             self.address(byte)
         elif self.turn == "write":
             self.written(byte)
@@ -72,9 +79,9 @@ class Device:
         self.first = False
 
 
-def expected_events(words):
+def expected_events(words, general_call):
     """The events of a recipe, as the last four columns of a report."""
-    device = Device()
+    device = Device(general_call)
     for word in words:
         literal = make_capture.LITERAL.match(word)
         if word in ("S", "P"):
@@ -117,7 +124,7 @@ def faults(name, kind, a, text):
     if lines[0] != "item event byte ack pointer" or lines[-1] != f"end {items}":
         yield "the report's first or last line is wrong"
     events = [tuple(line.split()[1:]) for line in lines[1:-1]]
-    if events != expected_events(a.recipe):
+    if events != expected_events(a.recipe, a.general_call):
         yield "the report's events are not those of the recipe"
 
 
@@ -128,7 +135,7 @@ def main(arguments):
     os.makedirs(arguments[0], exist_ok=True)
     captures = wrong = 0
     for name, kind, a in manifest():
-        text = make_capture.capture(a.recipe, a.samples, a.delay, a.seed)
+        text = make_capture.capture(a.recipe, a.samples, a.delay, a.seed, a.general_call)
         with open(os.path.join(arguments[0], name + ".txt"), "w", encoding="ascii") as file:
             file.write(text)
         captures += 1

@@ -108,6 +108,7 @@ captures() {
     try captures_report same_reports $run_report "$report"
     try captures_archive same_reports $RUN "$out/capture" report -
     try captures_second same_reports "$out/second_capture" report -
+    try report_cases_second python3 tests/report_cases.py tests/vectors/request-1.txt "$out/second_capture" report -
     try captures_wires same_wires
     try cuts "$out/cut" "$out"/wires/*.bin
 }

@@ -1,9 +1,12 @@
 /* The player: from text to items, from items to the report's lines or to the wire. */
 #include "player.h"
+#include "hits.h"
 
 #include <string.h>
 
-enum { ADDRESS = 0x30, HANDLER_CALL = 4, SKIPPED = 5, FOREIGN = 6 };
+enum { ADDRESS = 0x30, CON2 = 3, GCEN = 0x80, SEN = 0x01 };
+
+enum { HANDLER_CALL = 4, SKIPPED = 5, FOREIGN = 6 };
 
 /* ---- The text ---- */
 
@@ -17,13 +20,14 @@ static int meaning(char c)
     return c == ' ' || c == '\n' ? SKIPPED : FOREIGN;
 }
 
-/* Takes a text that is not too long apart; answers whether each byte of it had a meaning. */
+/* Takes a text that is not too long apart; answers whether each byte had a meaning, which g has as the first one alone. */
 static int parse(player *p)
 {
     size_t i;
 
     p->length = 0;
-    for (i = 0; i < p->text_length; i++) {
+    p->gcen = p->text_length > 0 && p->text[0] == 'g';
+    for (i = p->gcen ? 1 : 0; i < p->text_length; i++) {
         int item = meaning(p->text[i]);
 
         if (item == FOREIGN)
@@ -36,12 +40,14 @@ static int parse(player *p)
 
 /* ---- Playing ---- */
 
-/* Setup with ADD 30 and 32 zero bytes, as the report has it. */
+/* Setup with ADD 30 and 32 zero bytes, as the report has it; then GCEN if the text asks for it, SEN as setup has it. */
 static int begin(player *p)
 {
     memset(p->memory, 0, PLAYER_MEMORY);
     plain_setup(&p->plain, ADDRESS, PLAYER_MEMORY, p->memory);
-    return door.setup(p->image, DOOR_IMAGE, ADDRESS, PLAYER_MEMORY).refusal == 0;
+    if (door.setup(p->image, DOOR_IMAGE, ADDRESS, PLAYER_MEMORY).refusal != 0)
+        return 0;
+    return !p->gcen || door.write(p->image, DOOR_IMAGE, CON2, GCEN | SEN).refusal == 0;
 }
 
 /* One item to the module; answers whether the door took it. */
@@ -52,6 +58,14 @@ static int take(player *p, uint8_t item)
     return door.sample(p->image, DOOR_IMAGE, item).refusal == 0;
 }
 
+/* The letter of a byte: D for a later one; a first one is a general call or any other address by the comparison alone. */
+static char letter(const player *p, const plain_reader *r)
+{
+    if (!r->first)
+        return 'D';
+    return door.hit(p->image, DOOR_IMAGE, r->byte).value == HIT_GENERAL_CALL ? 'G' : 'A';
+}
+
 /* What a sample brought, as a line of the report: the wire's level goes to the reader. */
 static void print_line(player *p, size_t item, FILE *out)
 {
@@ -60,8 +74,7 @@ static void print_line(player *p, size_t item, FILE *out)
     int brought = plain_level(&p->plain, now.wire);
 
     if (brought == PLAIN_BYTE)
-        fprintf(out, "%lu %c %02X %u %u\n", (unsigned long)item, before.first ? 'A' : 'D', before.byte, before.answer,
-                now.pointer);
+        fprintf(out, "%lu %c %02X %u %u\n", (unsigned long)item, letter(p, &before), before.byte, before.answer, now.pointer);
     else if (brought != PLAIN_NOTHING)
         fprintf(out, "%lu %c -- - %u\n", (unsigned long)item, brought == PLAIN_START ? 'S' : 'P', now.pointer);
 }

@@ -16,6 +16,7 @@ enum { PLAYER_LONGEST = 60000, PLAYER_MEMORY = 32 };
 typedef struct {
     char text[PLAYER_LONGEST + 1];
     size_t text_length;
+    uint8_t gcen;   /* the text begins with g: GCEN is set before item 0 */
     uint8_t items[PLAYER_LONGEST];
     size_t length;
     uint8_t image[DOOR_IMAGE];

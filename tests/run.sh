@@ -73,12 +73,19 @@ same_edges() {
     examples/left_edge.py >"$out/left_edge.out" && diff "$out/left_edge.out" examples/left_edge.out &&
         [ "$(grep -cxFf examples/left_edge.out docs/ANSWER.md)" -eq "$(wc -l <examples/left_edge.out)" ]
 }
+# The report's page shows the first lines of a stored report.
+same_page() {
+    sed -n '/^    item event/,/^$/s/^    //p' docs/REPORT.md >"$out/page.out" && [ -s "$out/page.out" ] &&
+        head -n "$(wc -l <"$out/page.out")" tests/captures/brief_general_call_on.report | diff - "$out/page.out"
+}
 report_cases() {
     local name
     try left_edge same_edges
+    try report_page same_page
     for name in $(ls tests/report | sed -n 's/\.in\(\.sh\)\{0,1\}$//p' | sort -u); do
         try "report_$name" report_case "$name"
     done
+    try report_request_1 python3 tests/report_cases.py tests/vectors/request-1.txt $RUN_PROGRAM target/bin/report
 }
 
 # ---- With the archive ----
@@ -109,7 +116,7 @@ dense_runs() {
     try spoiled_dense $RUN "$out/dense" 200000 7 1
 }
 
-# What the header says of the archive as a whole: eight functions, nothing called, no memory of its own.
+# What the header says of the archive as a whole: nine functions, nothing called, no memory of its own.
 alone() {
     local functions others calls variables
     functions=$($NM -g "$archive" | grep -c ' T wherryoar_')
@@ -117,7 +124,7 @@ alone() {
     calls=$($NM -u "$archive" | grep -c ' [Uwv] ')
     variables=$($NM "$archive" | grep -c ' [BbCDdGgSs] ')
     echo "functions $functions, other names it offers $others, names it calls $calls, variables $variables"
-    [ "$functions $others $calls $variables" = "8 0 0 0" ]
+    [ "$functions $others $calls $variables" = "9 0 0 0" ]
 }
 
 # Installed in a folder of its own, and from there the host in examples/.

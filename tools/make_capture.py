@@ -1,7 +1,7 @@
 #!/usr/bin/env python3
 """Turns a recipe (Start, Stop, bytes written, bytes read) into a capture as the report reads it: digits 0 to 3 and h.
 
-    make_capture.py [-c SAMPLES] [-d DELAY] [-j SEED] [-o FILE] RECIPE..
+    make_capture.py [-g] [-c SAMPLES] [-d DELAY] [-j SEED] [-o FILE] RECIPE..
 
 A recipe is a row of words:
 
@@ -16,7 +16,7 @@ A recipe is a row of words:
 A digit is what everybody but the module drives, 2 * SCL + SDA. SAMPLES is the number of samples per clock (2 or more):
 SCL is low for the first half, SDA changes in the middle of it. A handler call comes DELAY samples after each ninth fall
 (0: never); a master that wants SCL high before that waits for it. With a SEED above 0 each length is off by up to a
-quarter, the same way for the same seed.
+quarter, the same way for the same seed. With -g the capture begins with g: the report's module has GCEN on.
 """
 import argparse
 import re
@@ -132,10 +132,10 @@ class Wave:
         return True
 
 
-def capture(words, samples=2, delay=1, seed=0):
+def capture(words, samples=2, delay=1, seed=0, general_call=False):
     """The capture of a recipe as text, a new line for each word; ValueError names a word that is none."""
     wave = Wave(samples, delay, seed)
-    lines = []
+    lines = ["g"] if general_call else []
     for word in words:
         begin = len(wave.items)
         if not wave.word(word):
@@ -147,6 +147,7 @@ def capture(words, samples=2, delay=1, seed=0):
 
 def parser():
     p = argparse.ArgumentParser(description="Turns a recipe into a capture.")
+    p.add_argument("-g", "--general-call", action="store_true", help="g first: GCEN is on")
     p.add_argument("-c", "--samples", type=int, default=2, help="samples per clock, 2 or more")
     p.add_argument("-d", "--delay", type=int, default=1, help="samples from a ninth fall to the handler call; 0: none")
     p.add_argument("-j", "--seed", type=int, default=0, help="above 0: lengths off by up to a quarter")
@@ -161,7 +162,7 @@ def main(arguments):
         print("make_capture.py: samples below 2, or a negative delay or seed", file=sys.stderr)
         return 2
     try:
-        text = capture(a.recipe, a.samples, a.delay, a.seed)
+        text = capture(a.recipe, a.samples, a.delay, a.seed, a.general_call)
     except ValueError as wrong:
         print(f"make_capture.py: {wrong}", file=sys.stderr)
         return 2

@@ -1,5 +1,6 @@
 #!/usr/bin/env bash
-# Runs the report program on a file of digits 0 to 3 and h (no file: standard input), and builds it first if need be.
+# Runs the report program on a file of digits 0 to 3 and h, where a g as the first byte sets GCEN (no file: standard input), and
+# builds it first if need be.
 set -u
 file=${1:-/dev/stdin}
 case $file in /*) ;; *) file=$(pwd)/$file ;; esac
