@@ -4,7 +4,7 @@
 #include <stdio.h>
 #include <string.h>
 
-enum { SDA = 1, SCL = 2, SSPIF = 1, P = 0x10 };
+enum { SDA = 1, SCL = 2, SSPIF = 1, P = 0x10, GCEN = 0x80, SEN = 0x01 };
 
 enum { CHANNELS = 2, MEMORY = 48, ITEMS = 4096, WIDTH = 80 };
 
@@ -14,6 +14,7 @@ typedef struct {
     uint8_t add;
     uint64_t start, n;
     wherryoar_view seen[ITEMS];
+    uint32_t hit[ITEMS];    /* which address is hit, where a first byte is whole; else none */
 } channel;
 
 /* The host: two channels, one memory with a window for each, one capture. */
@@ -39,6 +40,23 @@ static int set_up(channel *c, uint8_t add, uint64_t start, uint64_t n)
     c->start = start;
     c->n = n;
     return wherryoar_setup(c->state, sizeof c->state, add, n).refusal == WHERRYOAR_DONE;
+}
+
+/* Lets a channel answer the general call too; SEN stays as setup has it. */
+static int turn_on_general_call(channel *c)
+{
+    return wherryoar_write(c->state, sizeof c->state, WHERRYOAR_CON2, GCEN | SEN).refusal == WHERRYOAR_DONE;
+}
+
+/* Keeps what is seen of a channel after an item. A first byte is compared as soon as it has its eight bits. */
+static void keep(channel *c, size_t item)
+{
+    wherryoar_view v = wherryoar_look(c->state, sizeof c->state);
+
+    c->seen[item] = v;
+    c->hit[item] = WHERRYOAR_NO_HIT;
+    if (v.phase == WHERRYOAR_ADDRESS && v.bits == 8)
+        c->hit[item] = wherryoar_hit(c->state, sizeof c->state, v.byte).value;
 }
 
 /* The lines that a channel pulls low, as bits of a level. */
@@ -67,7 +85,7 @@ static int feed(host *h, char item)
             a = wherryoar_sample(c->state, sizeof c->state, (uint8_t)((unsigned)(item - '0') & ~pulled[1 - i]));
         if (a.refusal != WHERRYOAR_DONE)
             return 0;
-        c->seen[h->length] = wherryoar_look(c->state, sizeof c->state);
+        keep(c, h->length);
     }
     h->driven[h->length++] = item;
     return 1;
@@ -182,13 +200,14 @@ static void draw_bars(const channel *c, row r)
     print_row("  ack", &acknowledged);
 }
 
-/* The label of a stretch of phases: its name, and the byte once it is whole. */
+/* The label of a stretch of phases: its name, and the byte once it is whole. An address may be the general call. */
 static void phase_label(const channel *c, size_t item, size_t end, char *label, size_t room)
 {
     const wherryoar_view *v = &c->seen[end - 1];
+    const char *name = c->hit[end - 1] == WHERRYOAR_GENERAL_CALL ? "general call" : phase_name(v);
 
     if (v->phase == WHERRYOAR_SENDING || v->bits == 8)
-        snprintf(label, room, "%s %02X", phase_name(v), v->byte);
+        snprintf(label, room, "%s %02X", name, v->byte);
     else
         snprintf(label, room, "%s", phase_name(&c->seen[item]));
 }
@@ -242,7 +261,7 @@ static void draw_channel(const host *h, int number, row r)
 {
     const channel *c = &h->channels[number];
 
-    printf("channel %d, ADD %02X\n", number + 1, c->add);
+    printf("channel %d, ADD %02X%s\n", number + 1, c->add, c->seen[r.from].con2 & GCEN ? ", GCEN" : "");
     draw_line("  SCL", c, r, SCL);
     draw_line("  SDA", c, r, SDA);
     draw_stretches("  phase", h, c, r, begins_phase);
@@ -288,6 +307,7 @@ static void print_legend(void)
            "  driven   what the master drives, 2 * SCL + SDA; h: both handlers are called\n"
            "  SCL, SDA the wire; S, P on SDA: Start, Stop\n"
            "  phase    quiet; address, data, sending, with the byte in hex; held: the clock is held;\n"
+           "           general call: an address that hits by GCEN, not by ADD;\n"
            "           ack, no: the acknowledge slot, pulled or not; M: the master's acknowledge\n"
            "  SSPIF    # the flag is set\n"
            "  held     # the channel holds SCL low\n"
@@ -309,7 +329,8 @@ int main(int argc, char **argv)
     }
     for (i = 0; i < MEMORY; i++)
         h.memory[i] = (uint8_t)(0xA0 + i);
-    fed = set_up(&h.channels[0], 0x30, 0, 16) && set_up(&h.channels[1], 0x52, 40, 8);
+    fed = set_up(&h.channels[0], 0x30, 0, 16) && set_up(&h.channels[1], 0x52, 40, 8) &&
+          turn_on_general_call(&h.channels[0]);
     print_legend();
     print_memory(&h, "before");
     fed = fed && feed_file(&h, file);
