@@ -54,10 +54,11 @@ errors_at() { # errors_at CRATE PLACE LOG
 
 # What an error says where a proof only rests on another that failed.
 follows='was not admitted'
-# What it says where a proof names a part that the code or the definition has not, takes too many or too few for one, or has an
-# invariant or a measure of other variables than the loop's.
+# What it says where a proof names a part that the code or the definition has not, takes too many or too few for one, has an
+# invariant or a measure of other variables than the loop's, or searches where, after a call was left out, a result is asked for.
 unfit='can be named from here|binders, but its type has room|error: `(Inv|μ)-loop|is not in scope|not a (field|constructor)'
 unfit="$unfit|has no field|expected type \`tie.Need-|is not a structural call|is for an impossible case|explicit arguments more than"
+unfit="$unfit|no proof of \`denote.Triple.Entry.Res "
 
 # Whether a proof failed by itself, by the log of an edit.
 failed_by_itself() { # failed_by_itself CRATE PLACE LOG
