@@ -9,6 +9,7 @@ use Rattle.mssp.specs.declared.Live.{Live}
 use Rattle.mssp.specs.declared.Phase.{Phase}
 use Rattle.mssp.specs.declared.Phase.the-variants.{Quiet}
 use Rattle.mssp.specs.declared.Module.{Module}
+use Rattle.mssp.specs.declared.Stand.{Stand}
 
 -- ---- what edges change, bit by bit: the others stay
 abbrev pub liveOf : Bool → Bool → Bool → Bool → Bool → Bool → Bool → Bool → Bool → Bool → ℕ → Live
@@ -102,6 +103,10 @@ interrupting c = c .sspm3 && modelled (c .sspm3) (c .sspm2) (c .sspm1) (c .sspm0
 -- ---- the module
 abbrev pub moduleOf : Config → Live → Phase → Line → Module
 moduleOf c l ph line = record { config = c; live = l; phase = ph; line = line }
+
+-- What of it a level meets first.
+abbrev pub standOf : Module → Stand
+standOf m = record { enabled = m .config .sspen; acktim = m .live .acktim; phase = m .phase; line = m .line }
 
 -- Fresh: all 0, MSK FF, quiet, no wire remembered.
 abbrev pub fresh : Module

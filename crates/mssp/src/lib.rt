@@ -102,6 +102,14 @@ pub struct Module {
     pub line: Line,
 }
 
+// What of a module a level meets first: whether it reads edges, ACKTIM, which a ninth rise ends, and where it stands.
+pub struct Stand {
+    pub enabled: bool,
+    pub acktim: bool,
+    pub phase: Phase,
+    pub line: Line,
+}
+
 pub fn pick_byte(first: bool, a: u8, b: u8) -> u8
     ensures { λ r. ⌜ r ≡ cond first a b ⌝ }
 {

@@ -1,1 +1,3 @@
 pub mod Rules
+pub mod Still
+pub mod Laws

@@ -1,6 +1,7 @@
 // From levels to bytes: one function for each rule of the bus, and the sample that runs them.
 ghost use mathlib.Core.Path.{_≡_};
 ghost use Rattle.sampling.specs.Rules.{started, stopped, intake, addressByte, addressFall, dataByte, dataFall, pullEnded, slotEnded, bitSent, answered, fallen, dataRisen, risen, edgeStep, seen, sampled};
+ghost use Rattle.sampling.specs.Still.{isStill};
 use mssp::Config;
 use mssp::Live;
 use mssp::Module;
@@ -313,4 +314,15 @@ pub fn sample(m: Module, scl: bool, sda: bool) -> Module
     let scl_pulled = mssp::pulls_scl(phase);
     let sda_pulled = mssp::pulls_sda(phase);
     see(m, !scl_pulled & scl, !sda_pulled & sda)
+}
+
+// The short way: on the wire, with what the phase pulls, the level is what SCL and SDA were.
+pub fn is_still(phase: Phase, scl: bool, sda: bool, level: u8) -> bool
+    ensures { λ r. ⌜ r ≡ isStill phase scl sda level ⌝ }
+{
+    let scl_pulled = mssp::pulls_scl(phase);
+    let sda_pulled = mssp::pulls_sda(phase);
+    let scl_now = !scl_pulled & (level / 2 % 2 == 1);
+    let sda_now = !sda_pulled & (level / 1 % 2 == 1);
+    (scl_now == scl) & (sda_now == sda)
 }

@@ -1,0 +1,43 @@
+-- The short way leaves the module as it is.
+use Prim.Native.Nat.{ℕ}
+use mathlib.Core.Path.{_≡_, refl, ap, ap₂, subst, sym, _∙_}
+use mathlib.Core.Bool.{Bool, true, false, Bool·beq, _&&_}
+use Rattle.truth.specs.Tests.{never, and-first, and-second}
+use Rattle.wire.specs.declared.Line.{Line}
+use Rattle.wire.specs.declared.Edge.{Edge}
+use Rattle.wire.specs.declared.Remembered.the-variants.{Wire}
+use Rattle.wire.specs.Wire.{sclOf, sdaOf, onWire}
+use Rattle.wire.specs.Laws.{level-again}
+use Rattle.mssp.specs.declared.Module.{Module}
+use Rattle.mssp.specs.Module.{moduleOf}
+use Rattle.mssp.specs.Drivers.{sclPulled, sdaPulled}
+use Rattle.sampling.specs.declared.Moved.{Moved}
+use Rattle.sampling.specs.Rules.{edgeStep, seenIf, sampled}
+use Rattle.sampling.specs.Still.{isStill}
+
+equal : (a b : Bool) → Bool·beq a b ≡ true → a ≡ b
+equal true true e = refl
+equal true false e = never e
+equal false true e = never e
+equal false false e = refl
+
+-- A line of a wire that was seen.
+abbrev lineAt : Bool → Bool → Bool → Line
+lineAt scl sda mark = record { remembered = Wire scl sda; mark = mark }
+
+-- The level that is remembered is seen once more.
+module _ (m : Module) (scl sda mark : Bool) (stands : scl && mark ≡ mark) where
+  abbrev here : Module
+  here = moduleOf (m .config) (m .live) (m .phase) (lineAt scl sda mark)
+
+  seen-again : (on : Bool) → seenIf on here scl sda ≡ here
+  seen-again true = rw (level-again mark scl sda stands .0) (ap (λ (line : Line). moduleOf (m .config) (m .live) (m .phase) line) (level-again mark scl sda stands .1))
+  seen-again false = ap (λ (line : Line). moduleOf (m .config) (m .live) (m .phase) line) (level-again mark scl sda stands .1)
+
+  pub sampled-still :
+      (level : ℕ) → isStill (m .phase) scl sda level ≡ true → sampled here (sclOf level) (sdaOf level) ≡ here
+  sampled-still level same =
+      let scls : Bool = Bool·beq (onWire (sclPulled (m .phase)) (sclOf level)) scl in
+      let sdas : Bool = Bool·beq (onWire (sdaPulled (m .phase)) (sdaOf level)) sda in
+      ap₂ (λ (a b : Bool). seenIf (m .config .sspen) here a b) (equal _ scl (and-first scls sdas same)) (equal _ sda (and-second scls sdas same))
+      ∙ seen-again (m .config .sspen)
