@@ -2,15 +2,24 @@
 use Prim.Native.Nat.{ℕ, _+_, _%_, _<_, _≤_}
 use mathlib.Core.Path.{_≡_, refl, sym, ap, ap₂, subst, _∙_}
 use mathlib.Core.Bool.{Bool, true, false, Bool·beq, cond, _&&_, _||_, not}
+use mathlib.Core.List.{List, [], _∷_}
 use lib.Dec.{ltb}
 use borrow.Author.Tests.{lt-ltb, le-ltb}
 use Rattle.truth.specs.Tests.{never}
 use Rattle.wire.specs.declared.Bits.{Bits}
-use Rattle.wire.specs.declared.Remembered.the-variants.{Wire}
+use Rattle.wire.specs.declared.Remembered.{Remembered}
+use Rattle.wire.specs.declared.Remembered.the-variants.{Nothing, Wire}
 use Rattle.wire.specs.Wire.{sclOf, sdaOf, onWire, condition, edgeFrom}
+use Rattle.wire.specs.Laws.{level-again}
+use Rattle.mssp.specs.declared.Phase.{Phase}
+use Rattle.mssp.specs.declared.Phase.the-variants.{Quiet, Address, Data, HeldBefore, Slot, HeldForSending, Sending, MasterAcknowledge}
+use Rattle.mssp.specs.declared.Stand.{Stand}
+use Rattle.mssp.specs.Drivers.{sclPulled, sdaPulled}
 use Rattle.stretch.specs.declared.Seen.{Seen}
+use Rattle.stretch.specs.declared.Stretch.{Stretch}
 use Rattle.stretch.specs.Seen.{seenOn, endedBy, ends, takenAt, placeSeen}
-use Rattle.stretch.specs.Stretch.{takingStops, takingGoes, sentLevel, sendingStops, sendingGoes, restingStops, restingGoes}
+use Rattle.stretch.specs.Walk.{walked, steps}
+use Rattle.stretch.specs.Stretch.{takingStops, takingGoes, sentLevel, sendingStops, sendingGoes, restingStops, restingGoes, stretchAt, riseRule, phaseStretch, stretchFrom, standStretch, seenIn, isReading, fallEnds, phaseOver}
 
 -- SDA's change is a Start or a Stop, but for the mark.
 changed : (mark before after rise fall : Bool) → not mark && not (Bool·beq before after) ≡ endedBy rise fall (condition mark before after)
@@ -35,22 +44,22 @@ pub by-level : (item : ℕ) {a b v : Bool} → item ≤ 3 → a ≡ b → a ≡ 
 by-level item {a} {b} h e f = ap (λ (t : Bool). t || b) (le-ltb 3 item h) ∙ sym e ∙ f
 
 -- ---- the same level again: once seen it changes nothing
-still : (mark scl sda rise fall : Bool) → endedBy rise fall (edgeFrom mark (Wire scl sda) scl sda) ≡ false
-still mark false sda rise fall = refl
-still true true sda rise fall = refl
-still false true true rise fall = refl
-still false true false rise fall = refl
+twice : (scl mark : Bool) → scl && (scl && mark) ≡ scl && mark
+twice true mark = refl
+twice false mark = refl
+
+still : (mark scl sda rise fall : Bool) → endedBy rise fall (edgeFrom (scl && mark) (Wire scl sda) scl sda) ≡ false
+still mark scl sda rise fall = ap (endedBy rise fall) (level-again (scl && mark) scl sda (twice scl mark) .0)
 
 seen-again : (w : Seen) (scl sda : Bool) → seenOn (seenOn w scl sda) scl sda ≡ seenOn w scl sda
-seen-again w true sda = refl
-seen-again w false sda = refl
+seen-again w scl sda = ap (λ (mark : Bool). record { scl = scl; sda = sda; mark = mark }) (twice scl (w .mark))
 
 -- An item ends nothing and moves nothing at p.
 abbrev pub Idle : {P : Type 0} → (P → ℕ → Bool) → (P → ℕ → P) → P → ℕ → Type 0
 Idle stop go p item = (stop p item ≡ false) × (go p item ≡ p)
 
 level-still : (item : ℕ) → item ≤ 3 → (w : Seen) (scl sda rise fall : Bool) → ltb 3 item || ends (seenOn w scl sda) scl sda rise fall ≡ false
-level-still item h w scl sda rise fall = by-level item h refl (still (scl && w .mark) scl sda rise fall)
+level-still item h w scl sda rise fall = by-level item h refl (still (w .mark) scl sda rise fall)
 
 taken-again : (b : Bits) (w : Seen) (scl sda : Bool) → takenAt b (seenOn w scl sda) scl sda ≡ b
 taken-again b w true sda = refl
@@ -85,3 +94,65 @@ sending-again byte p item h f =
     let sda : Bool = sentLevel byte place item in
     subst (λ (x : ℕ). Idle (sendingStops byte) (sendingGoes byte) (x, seenOn w scl sda) item) (sym (place-stays place (w .scl) scl f))
     (level-still item h w scl sda _ _, ap₂ (λ (x : ℕ) (y : Seen). (x, y)) (placed-again place w scl sda) (seen-again w scl sda))
+
+-- ---- a single item: where it stops the stretch, and where the stretch goes over it
+stop-or-go : {P : Type 0} (stop : Bool) (p q : P) (at : P → ℕ → Stretch) → cond stop (at p 0) (at q 1) ≡ at (cond stop p q) (cond stop 0 1)
+stop-or-go true p q at = refl
+stop-or-go false p q at = refl
+
+abbrev overIf : Bool → Phase → Seen → Bool → Bool → Stretch
+overIf stop ph w scl sda = cond stop (stretchAt ph w 0) (stretchAt (phaseOver ph w scl sda) (seenOn w scl sda) 1)
+
+abbrev pub stops : Phase → Bool → Seen → ℕ → Bool
+stops ph acktim w level =
+    ltb 3 level || ends w (onWire (sclPulled ph) (sclOf level)) (onWire (sdaPulled ph) (sdaOf level)) (riseRule ph acktim) (fallEnds ph)
+
+abbrev overOf : Phase → Bool → Seen → ℕ → Stretch
+overOf ph acktim w level = overIf (stops ph acktim w level) ph w (onWire (sclPulled ph) (sclOf level)) (onWire (sdaPulled ph) (sdaOf level))
+
+over-is : (ph : Phase) (acktim : Bool) (w : Seen) (level : ℕ) → overOf ph acktim w level ≡ phaseStretch ph acktim w (level ∷ [])
+unfolding walked steps
+over-is Quiet acktim w level = stop-or-go (stops Quiet acktim w level) _ _ (stretchAt Quiet)
+over-is (Address bits) acktim w level =
+    stop-or-go (stops (Address bits) acktim w level) (bits, w) (takingGoes (bits, w) level) (λ (p : Bits × Seen). stretchAt (Address (p .0)) (p .1))
+over-is (Data bits true) acktim w level = stop-or-go (stops (Data bits true) acktim w level) _ _ (stretchAt (Data bits true))
+over-is (Data bits false) acktim w level =
+    stop-or-go (stops (Data bits false) acktim w level) (bits, w) (takingGoes (bits, w) level) (λ (p : Bits × Seen). stretchAt (Data (p .0) false) (p .1))
+over-is (HeldBefore refused) acktim w level = stop-or-go (stops (HeldBefore refused) acktim w level) _ _ (stretchAt (HeldBefore refused))
+over-is (Slot slot) acktim w level = stop-or-go (stops (Slot slot) acktim w level) _ _ (stretchAt (Slot slot))
+over-is HeldForSending acktim w level = stop-or-go (stops HeldForSending acktim w level) _ _ (stretchAt HeldForSending)
+over-is (Sending byte place) acktim w level =
+    stop-or-go (stops (Sending byte place) acktim w level) (place, w) (sendingGoes byte (place, w) level) (λ (p : ℕ × Seen). stretchAt (Sending byte (p .0)) (p .1))
+over-is MasterAcknowledge acktim w level = stop-or-go (stops MasterAcknowledge acktim w level) _ _ (stretchAt MasterAcknowledge)
+
+module _ (ph : Phase) (acktim : Bool) (w : Seen) (level : ℕ) where
+  pub over-stops : stops ph acktim w level ≡ true → stretchAt ph w 0 ≡ phaseStretch ph acktim w (level ∷ [])
+  over-stops e = rw e at (over-is ph acktim w level)
+
+  pub over-goes :
+      let scl : Bool = onWire (sclPulled ph) (sclOf level) in let sda : Bool = onWire (sdaPulled ph) (sdaOf level) in
+      stops ph acktim w level ≡ false → stretchAt (phaseOver ph w scl sda) (seenOn w scl sda) 1 ≡ phaseStretch ph acktim w (level ∷ [])
+  over-goes e = rw e at (over-is ph acktim w level)
+
+-- ---- whether the module reads at all, as the code has found it
+module _ (s : Stand) (items : List ℕ) {w : Seen} {reading : Bool} (seen : w ≡ seenIn (s .line .remembered) (s .line .mark)) (asked : reading ≡ isReading (s .enabled) (s .line .remembered)) where
+  read-if :
+      (on : Bool) (rem : Remembered) → isReading on rem ≡ true
+      → phaseStretch (s .phase) (s .acktim) (seenIn rem (s .line .mark)) items ≡ stretchFrom on rem (s .line .mark) (s .phase) (s .acktim) items
+  read-if on Nothing e = never e
+  read-if true (Wire scl sda) e = refl
+  read-if false (Wire scl sda) e = never e
+
+  pub read-on : {r : Stretch} → reading ≡ true → r ≡ phaseStretch (s .phase) (s .acktim) w items → r ≡ standStretch s items
+  read-on t e =
+      e ∙ ap (λ (x : Seen). phaseStretch (s .phase) (s .acktim) x items) seen ∙ read-if (s .enabled) (s .line .remembered) (sym asked ∙ t)
+
+  unread-if :
+      (on : Bool) (rem : Remembered) → isReading on rem ≡ false
+      → stretchAt (s .phase) (seenIn rem (s .line .mark)) 0 ≡ stretchFrom on rem (s .line .mark) (s .phase) (s .acktim) items
+  unread-if on Nothing e = refl
+  unread-if true (Wire scl sda) e = never (sym e)
+  unread-if false (Wire scl sda) e = refl
+
+  pub unread : {r : Stretch} → reading ≡ false → r ≡ stretchAt (s .phase) w 0 → r ≡ standStretch s items
+  unread f e = e ∙ ap (λ (x : Seen). stretchAt (s .phase) x 0) seen ∙ unread-if (s .enabled) (s .line .remembered) (sym asked ∙ f)

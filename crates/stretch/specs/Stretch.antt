@@ -1,6 +1,6 @@
 -- Stretches: how far a module goes before an item that a rule has to see, and where that leaves it.
 use Prim.Native.Nat.{ℕ}
-use mathlib.Core.Bool.{Bool, true, false, _&&_, _||_, not}
+use mathlib.Core.Bool.{Bool, true, false, cond, _&&_, _||_, not}
 use mathlib.Core.List.{List}
 use lib.Dec.{ltb, leb}
 use Rattle.wire.specs.declared.Bits.{Bits}
@@ -11,6 +11,8 @@ use Rattle.wire.specs.Wire.{sclOf, sdaOf, onWire}
 use Rattle.mssp.specs.declared.Phase.{Phase}
 use Rattle.mssp.specs.declared.Phase.the-variants.{Quiet, Address, Data, HeldBefore, Slot, HeldForSending, Sending, MasterAcknowledge}
 use Rattle.mssp.specs.declared.Module.{Module}
+use Rattle.mssp.specs.declared.Stand.{Stand}
+use Rattle.mssp.specs.Module.{standOf}
 use Rattle.mssp.specs.Phases.{bitsOf, isSlot, isSending, isMasterAcknowledge, hasBits, eightBits}
 use Rattle.mssp.specs.Drivers.{sclPulled, sdaPulled}
 use Rattle.stretch.specs.declared.Seen.{Seen}
@@ -116,5 +118,30 @@ stretchFrom true (Wire scl sda) mark ph acktim items =
     phaseStretch ph acktim (record { scl = scl; sda = sda; mark = mark }) items
 stretchFrom false (Wire scl sda) mark ph acktim items = stretchAt ph (record { scl = scl; sda = sda; mark = mark }) 0
 
+-- What a stretch sees of a module.
+abbrev pub standStretch : Stand → List ℕ → Stretch
+standStretch s items = stretchFrom (s .enabled) (s .line .remembered) (s .line .mark) (s .phase) (s .acktim) items
+
 abbrev pub stretchOf : Module → List ℕ → Stretch
-stretchOf m items = stretchFrom (m .config .sspen) (m .line .remembered) (m .line .mark) (m .phase) (m .live .acktim) items
+stretchOf m items = standStretch (standOf m) items
+
+-- ---- a single item
+-- The wire as a line has it; before any level was seen nothing looks at it.
+abbrev pub seenIn : Remembered → Bool → Seen
+seenIn Nothing mark = record { scl = false; sda = false; mark = mark }
+seenIn (Wire scl sda) mark = record { scl = scl; sda = sda; mark = mark }
+
+-- An enabled module that has seen a level reads the next one.
+abbrev pub isReading : Bool → Remembered → Bool
+isReading sspen Nothing = false
+isReading sspen (Wire scl sda) = sspen
+
+-- Whether a fall ends a stretch: in a byte that is sent the last one.
+abbrev pub fallEnds : Phase → Bool
+fallEnds ph = cond (isSending ph) (leb 7 (bitsOf ph .count)) (fallRule ph)
+
+-- Where a level that ends no stretch leaves the phase.
+abbrev pub phaseOver : Phase → Seen → Bool → Bool → Phase
+phaseOver ph w scl sda =
+    cond (takesBits ph) (withBits ph (takenAt (bitsOf ph) w scl sda))
+    (cond (isSending ph) (Sending (bitsOf ph .value) (placeSeen (bitsOf ph .count) w scl)) ph)

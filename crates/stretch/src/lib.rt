@@ -1,10 +1,12 @@
 // A stretch: samples that move nothing but the bits so far and the wire remembered. A run takes them in small loops and
 // leaves every other sample to the rules.
 ghost use mathlib.Core.Path.{_≡_};
+ghost use mathlib.Core.List.{[], _∷_};
 ghost use Rattle.stretch.specs.Seen.{lineOf, seenOn, ends, takenAt, placeSeen};
-ghost use Rattle.stretch.specs.Stretch.{takingOf, sendingOf, restingOf, stretchAt, takesBits, withBits, riseRule, fallRule, phaseStretch, stretchOf};
+ghost use Rattle.stretch.specs.Stretch.{takingOf, sendingOf, restingOf, stretchAt, takesBits, withBits, riseRule, fallRule, phaseStretch, standStretch, stretchOf, seenIn, isReading, fallEnds, phaseOver};
 use mssp::Module;
 use mssp::Phase;
+use mssp::Stand;
 use wire::Bits;
 use wire::Line;
 use wire::Remembered;
@@ -272,6 +274,35 @@ pub fn line_of(w: Seen) -> Line
     }
 }
 
+// The wire as a line has it. Before any level was seen nothing looks at it.
+fn seen_in(line: Line) -> Seen
+    ensures { λ r. ⌜ r ≡ seenIn (line .remembered) (line .mark) ⌝ }
+{
+    let remembered = line.remembered;
+    match remembered {
+        Remembered::Nothing => Seen {
+            scl: false,
+            sda: false,
+            mark: line.mark,
+        },
+        Remembered::Wire(scl, sda) => Seen {
+            scl: scl,
+            sda: sda,
+            mark: line.mark,
+        },
+    }
+}
+
+// An enabled module that has seen a level reads the next one.
+fn is_reading(enabled: bool, remembered: Remembered) -> bool
+    ensures { λ r. ⌜ r ≡ isReading enabled remembered ⌝ }
+{
+    match remembered {
+        Remembered::Nothing => false,
+        Remembered::Wire(_, _) => enabled,
+    }
+}
+
 // The stretch ahead. Disabled, or before any level was seen, there is none.
 pub fn ahead(m: Module, items: &[u8]) -> Stretch
     ensures { λ r. ⌜ r ≡ stretchOf m (now (items .entry)) ⌝ }
@@ -279,25 +310,69 @@ pub fn ahead(m: Module, items: &[u8]) -> Stretch
     let phase = m.phase;
     let line = m.line;
     let remembered = line.remembered;
-    match remembered {
-        Remembered::Nothing => {
-            let w = Seen {
-                scl: false,
-                sda: false,
-                mark: line.mark,
-            };
-            ended(phase, w, 0)
-        }
-        Remembered::Wire(scl, sda) => {
-            let w = Seen {
-                scl: scl,
-                sda: sda,
-                mark: line.mark,
-            };
-            if m.config.sspen {
-                return in_phase(phase, m.live.acktim, w, items);
-            }
-            ended(phase, w, 0)
-        }
+    let w = seen_in(line);
+    if is_reading(m.config.sspen, remembered) {
+        return in_phase(phase, m.live.acktim, w, items);
     }
+    ended(phase, w, 0)
+}
+
+// Whether a fall ends a stretch: in a byte that is sent the last one.
+fn falls_out(phase: Phase) -> bool
+    ensures { λ r. ⌜ r ≡ fallEnds phase ⌝ }
+{
+    if mssp::is_sending(phase) {
+        let bits = mssp::bits_of(phase);
+        bits.count >= 7
+    } else {
+        has_fall(phase)
+    }
+}
+
+// Where a level that ends no stretch leaves the phase.
+fn phase_over(phase: Phase, w: Seen, scl: bool, sda: bool) -> Phase
+    ensures { λ r. ⌜ r ≡ phaseOver phase w scl sda ⌝ }
+{
+    let bits = mssp::bits_of(phase);
+    if takes_bits(phase) {
+        return with_bits(phase, take_at(bits, w, scl, sda));
+    }
+    if mssp::is_sending(phase) {
+        return Phase::Sending(bits.value, place_at(bits.count, w, scl));
+    }
+    phase
+}
+
+// A stretch of at most one item, in any phase.
+fn over_one(phase: Phase, acktim: bool, w: Seen, level: u8) -> Stretch
+    ensures { λ r. ⌜ r ≡ phaseStretch phase acktim w (level ∷ []) ⌝ }
+{
+    let holds = mssp::pulls_scl(phase);
+    let pulls = mssp::pulls_sda(phase);
+    let scl = !holds & (level / 2 % 2 == 1);
+    let sda = !pulls & (level / 1 % 2 == 1);
+    let rise = has_rise(phase, acktim);
+    let fall = falls_out(phase);
+    if level > 3 {
+        return ended(phase, w, 0);
+    }
+    if is_end(w, scl, sda, rise, fall) {
+        return ended(phase, w, 0);
+    }
+    let next = phase_over(phase, w, scl, sda);
+    ended(next, see_on(w, scl, sda), 1)
+}
+
+// The stretch of a single level: it has one item, or none where a rule has to see the level.
+pub fn over(s: Stand, level: u8) -> Stretch
+    ensures { λ r. ⌜ r ≡ standStretch s (level ∷ []) ⌝ }
+{
+    let phase = s.phase;
+    let line = s.line;
+    let remembered = line.remembered;
+    let w = seen_in(line);
+    if is_reading(s.enabled, remembered) {
+        return over_one(phase, s.acktim, w, level);
+    }
+    ended(phase, w, 0)
 }
