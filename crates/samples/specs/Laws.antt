@@ -1,8 +1,8 @@
 -- A stretch is a part of the samples: every item of it is a sample that the rules leave the module with where the stretch does.
 use Prim.Native.Nat.{ℕ, zero, suc, _+_, _-_, _<_, _≤_}
 use mathlib.Core.Path.{_≡_, refl, sym, ap, subst, _∙_}
-use mathlib.Core.Bool.{Bool, true, false}
-use mathlib.Core.List.{List}
+use mathlib.Core.Bool.{Bool, true, false, cond}
+use mathlib.Core.List.{List, [], _∷_}
 use native.Mathlib.Nat.{add-zero}
 use native.Mathlib.Omega.{arith}
 use lib.Dec.{leb, ltb}
@@ -22,6 +22,7 @@ use Rattle.mssp.specs.Phases.{bitsOf, isSending}
 use Rattle.mssp.specs.Drivers.{sclPulled, sdaPulled}
 use Rattle.stretch.specs.declared.Seen.{Seen}
 use Rattle.stretch.specs.declared.Stretch.{Stretch}
+use Rattle.stretch.specs.Walk.{walked}
 use Rattle.stretch.specs.Walking.{Onward, walk-onward, Walking, walk-on, walk-by, walk-stops, walk-out}
 use Rattle.stretch.specs.Stretch.{takesBits, withBits, riseRule, fallRule, stretchBy, takingStops, takingGoes, sendingStops, sendingGoes, restingStops, restingGoes, phaseStretch, stretchFrom, stretchOf}
 use Rattle.stretch.specs.Theorems.{stretch-within}
@@ -100,6 +101,24 @@ module _ (m : Module) (items : List ℕ) where
   ahead-feeds :
       let r : Stretch = stretchOf m items in 0 < r .length → Onward noSample sampledAt m items (movedOn m r) (r .length)
   ahead-feeds = feeds-from (m .config .sspen) refl (m .line .remembered)
+
+-- ---- a single level
+module _ (m : Module) (level : ℕ) (h : level ≤ 3) where
+  one-walked : walked noSample sampledAt m (level ∷ []) ≡ sampledAt m level
+  unfolding walked
+  one-walked = ap (λ (t : Bool). cond t m (sampledAt m level)) (le-ltb 3 level h)
+
+  pub level-fed : {r : Fed} → r ≡ fedOf m (level ∷ []) → r .mssp ≡ sampledAt m level
+  level-fed e = ap (λ (x : Fed). x .mssp) e ∙ one-walked
+
+  -- Where the level is a stretch of its own, it leads where the sample does.
+  pub level-passed : {r : Stretch} → r ≡ stretchOf m (level ∷ []) → 0 < r .length → movedOn m r ≡ sampledAt m level
+  unfolding walked
+  level-passed {r} e l =
+      let within : r .length ≤ 1 = subst (λ (x : Stretch). x .length ≤ 1) (sym e) (stretch-within m (level ∷ [])) in
+      let once : r .length ≡ 1 = omega arith in
+      let on = subst (λ (x : Stretch). 0 < x .length → Onward noSample sampledAt m (level ∷ []) (movedOn m x) (x .length)) (sym e) (ahead-feeds m (level ∷ [])) l in
+      sym (ap (λ (n : ℕ). walked noSample sampledAt (movedOn m r) (drop n (level ∷ []))) once) ∙ sym (on .place) ∙ one-walked
 
 -- The two ways through the code.
 module _ (m : Module) (items : List ℕ) {ahead : Stretch} (is : ahead ≡ stretchOf m items) where
