@@ -1,9 +1,10 @@
-// A phase from its four bytes; the remembered wire as one, and the way back.
+// Where a module stands, as six bytes: the phase with its parts, and the line; and the way back.
 ghost use mathlib.Core.Path.{_≡_};
-ghost use Rattle.phase_image.specs.PhasePart.{slotFrom, phaseFrom, wireByte, wireFrom};
+ghost use Rattle.phase_image.specs.PhasePart.{slotFrom, phaseFrom, wireByte, wireFrom, lineFrom, standPart, isStand};
 use mssp::Phase;
 use mssp::SlotCase;
 use wire::Bits;
+use wire::Line;
 use wire::Remembered;
 
 // The case of a slot that has the number. A number that no case has gives one with another, so that its image is refused.
@@ -47,7 +48,7 @@ pub fn wire_byte(remembered: Remembered) -> u8
     }
 }
 
-pub fn wire_from(byte: u8) -> Remembered
+fn wire_from(byte: u8) -> Remembered
     ensures { λ r. ⌜ r ≡ wireFrom byte ⌝ }
 {
     if byte == 255 {
@@ -55,4 +56,44 @@ pub fn wire_from(byte: u8) -> Remembered
     } else {
         Remembered::Wire(byte / 2 % 2 == 1, byte / 1 % 2 == 1)
     }
+}
+
+pub fn line_from(wire: u8, mark: u8) -> Line
+    ensures { λ r. ⌜ r ≡ lineFrom wire mark ⌝ }
+{
+    Line {
+        remembered: wire_from(wire),
+        mark: mark == 1,
+    }
+}
+
+pub fn stand_part(phase: Phase, line: Line) -> [u8; 6]
+    ensures { λ r. ⌜ r ≡ standPart phase line ⌝ }
+{
+    let bits = mssp::bits_of(phase);
+    let remembered = line.remembered;
+    [
+        mssp::phase_number(phase),
+        bits.count,
+        bits.value,
+        mssp::phase_mark(phase),
+        wire_byte(remembered),
+        line.mark as u8,
+    ]
+}
+
+// Whether six bytes are just the part of the phase and the line that they name.
+pub fn is_stand(number: u8, count: u8, byte: u8, mark: u8, wire: u8, marked: u8) -> bool
+    ensures { λ r. ⌜ r ≡ isStand number count byte mark wire marked ⌝ }
+{
+    let phase = phase_from(number, count, byte, mark);
+    let bits = mssp::bits_of(phase);
+    let line = line_from(wire, marked);
+    let remembered = line.remembered;
+    (mssp::phase_number(phase) == number)
+        & (bits.count == count)
+        & (bits.value == byte)
+        & (mssp::phase_mark(phase) == mark)
+        & (wire_byte(remembered) == wire)
+        & (line.mark as u8 == marked)
 }

@@ -1,7 +1,9 @@
 -- Which bit of STAT, CON1, CON2 and CON3 stands where (01, "Register numbers").
 use Prim.Native.Nat.{ℕ, _+_, _*_}
-use mathlib.Core.Bool.{Bool, false}
+use mathlib.Core.Bool.{Bool, false, _&&_}
 use mir.Val.{boolByte}
+use lib.Dec.{eqb}
+use Rattle.wire.specs.Byte.{bit}
 use Rattle.mssp.specs.declared.Config.{Config}
 use Rattle.mssp.specs.declared.Live.{Live}
 
@@ -30,3 +32,21 @@ con2Of c l = byteOf (c .gcen) (l .ackstat) (c .ackdt) false false false false (c
 -- ACKTIM, PCIE, SCIE, BOEN, SDAHT, SBCDE, AHEN, DHEN. BOEN is not modelled.
 abbrev pub con3Of : Config → Live → ℕ
 con3Of c l = byteOf (l .acktim) (c .pcie) (c .scie) false (c .sdaht) (c .sbcde) (c .ahen) (c .dhen)
+
+-- ---- what of a byte a register holds: the bits that it has
+abbrev pub statHeld : ℕ → ℕ
+statHeld v = byteOf (bit 7 v) (bit 6 v) (bit 5 v) (bit 4 v) (bit 3 v) (bit 2 v) false (bit 0 v)
+
+abbrev pub con1Held : ℕ → ℕ
+con1Held v = byteOf (bit 7 v) (bit 6 v) (bit 5 v) (bit 4 v) (bit 3 v) (bit 2 v) (bit 1 v) (bit 0 v)
+
+abbrev pub con2Held : ℕ → ℕ
+con2Held v = byteOf (bit 7 v) (bit 6 v) (bit 5 v) false false false false (bit 0 v)
+
+abbrev pub con3Held : ℕ → ℕ
+con3Held v = byteOf (bit 7 v) (bit 6 v) (bit 5 v) false (bit 3 v) (bit 2 v) (bit 1 v) (bit 0 v)
+
+-- Four bytes that the registers can hold: no other bit is 1.
+abbrev pub areHeld : ℕ → ℕ → ℕ → ℕ → Bool
+areHeld stat con1 con2 con3 =
+    eqb (statHeld stat) stat && eqb (con1Held con1) con1 && eqb (con2Held con2) con2 && eqb (con3Held con3) con3

@@ -1,6 +1,6 @@
 // STAT, CON1, CON2 and CON3 as they read: which bit stands where.
 ghost use mathlib.Core.Path.{_≡_};
-ghost use Rattle.register_bytes.specs.Bytes.{byteOf, statOf, con1Of, sspmOf, con2Of, con3Of};
+ghost use Rattle.register_bytes.specs.Bytes.{byteOf, statOf, con1Of, sspmOf, con2Of, con3Of, statHeld, con1Held, con2Held, con3Held, areHeld};
 use mssp::Config;
 use mssp::Live;
 
@@ -83,4 +83,78 @@ pub fn con3(c: Config, l: Live) -> u8
         c.ahen,
         c.dhen,
     )
+}
+
+// What of a byte STAT holds: all but UA.
+fn stat_held(v: u8) -> u8
+    ensures { λ r. ⌜ r ≡ statHeld v ⌝ }
+{
+    pack(
+        v / 128 % 2 == 1,
+        v / 64 % 2 == 1,
+        v / 32 % 2 == 1,
+        v / 16 % 2 == 1,
+        v / 8 % 2 == 1,
+        v / 4 % 2 == 1,
+        false,
+        v / 1 % 2 == 1,
+    )
+}
+
+// CON1 holds all of it.
+fn con1_held(v: u8) -> u8
+    ensures { λ r. ⌜ r ≡ con1Held v ⌝ }
+{
+    pack(
+        v / 128 % 2 == 1,
+        v / 64 % 2 == 1,
+        v / 32 % 2 == 1,
+        v / 16 % 2 == 1,
+        v / 8 % 2 == 1,
+        v / 4 % 2 == 1,
+        v / 2 % 2 == 1,
+        v / 1 % 2 == 1,
+    )
+}
+
+// CON2 holds all but the four bits of the master.
+fn con2_held(v: u8) -> u8
+    ensures { λ r. ⌜ r ≡ con2Held v ⌝ }
+{
+    pack(
+        v / 128 % 2 == 1,
+        v / 64 % 2 == 1,
+        v / 32 % 2 == 1,
+        false,
+        false,
+        false,
+        false,
+        v / 1 % 2 == 1,
+    )
+}
+
+// CON3 holds all but BOEN.
+fn con3_held(v: u8) -> u8
+    ensures { λ r. ⌜ r ≡ con3Held v ⌝ }
+{
+    pack(
+        v / 128 % 2 == 1,
+        v / 64 % 2 == 1,
+        v / 32 % 2 == 1,
+        false,
+        v / 8 % 2 == 1,
+        v / 4 % 2 == 1,
+        v / 2 % 2 == 1,
+        v / 1 % 2 == 1,
+    )
+}
+
+// Whether the registers can hold these bytes: no bit is 1 that they do not have.
+pub fn are_held(stat: u8, con1: u8, con2: u8, con3: u8) -> bool
+    ensures { λ r. ⌜ r ≡ areHeld stat con1 con2 con3 ⌝ }
+{
+    (stat_held(stat) == stat)
+        & (con1_held(con1) == con1)
+        & (con2_held(con2) == con2)
+        & (con3_held(con3) == con3)
 }

@@ -2,10 +2,11 @@
 ghost use mathlib.Core.Path.{_≡_};
 ghost use Rattle.wire.specs.Wire.{sclHigh};
 ghost use Rattle.mssp.specs.Phases.{isQuiet};
-ghost use Rattle.mssp.specs.Valid.{bitsFit, partsFit, addressBegins, valid};
-use mssp::Module;
+ghost use Rattle.mssp.specs.Valid.{bitsFit, partsFit, addressBegins};
+ghost use Rattle.validity.specs.Clauses.{clauses};
 use mssp::Phase;
 use wire::Bits;
+use wire::Line;
 use wire::Remembered;
 
 // At most eight bits, and a number that they can make.
@@ -57,21 +58,20 @@ fn scl_high(remembered: Remembered) -> bool
 }
 
 // All clauses, in the order of the definition.
-pub fn module_valid(m: Module) -> bool
-    ensures { λ r. ⌜ r ≡ valid m ⌝ }
+pub fn is_valid(
+    s: bool,
+    p: bool,
+    sspen: bool,
+    modelled: bool,
+    ckp: bool,
+    phase: Phase,
+    line: Line,
+) -> bool
+    ensures { λ r. ⌜ r ≡ clauses s p sspen modelled ckp phase line ⌝ }
 {
-    let config = m.config;
-    let sspen = config.sspen;
-    let modelled = mssp::is_modelled(config.sspm3, config.sspm2, config.sspm1, config.sspm0);
-    let live = m.live;
-    let s = live.s;
-    let p = live.p;
-    let ckp = live.ckp;
-    let line = m.line;
     let mark = line.mark;
     let remembered = line.remembered;
     let high = scl_high(remembered);
-    let phase = m.phase;
     let parts = parts_fit(phase);
     let quiet = is_quiet(phase);
     let begins = address_begins(phase);
