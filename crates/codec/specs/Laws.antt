@@ -1,15 +1,18 @@
 -- What every codec promises whose encoding parses back: a valid state's encoding is an image, an image is the encoding of the
 -- one valid state that it decodes to, each state has one, and other bytes decode to none.
-use Prim.Native.Nat.{ℕ}
+use Prim.Native.Nat.{ℕ, suc, _+_, _≤_}
 use mathlib.Core.Logic.{_↔_}
 use mathlib.Core.Path.{_≡_, refl, sym, ap, _∙_}
-use mathlib.Core.Bool.{Bool, true, false, cond}
-use mathlib.Core.List.{List, [], _∷_}
+use mathlib.Core.Bool.{Bool, true, false, cond, _&&_, and-assoc}
+use mathlib.Core.List.{List, [], _∷_, _++_}
 use mathlib.Core.Option.{Option, none, some, Option·some-injective, Option·none-ne-some}
 use mir.Facts.{and-yes}
 use lib.Dec.{T, eqb, eqb→eq}
+use lib.ListN.{length, take, drop, getD}
+use lib.Seq.{drop-cons}
+use native.Mathlib.Omega.{arith}
 use borrow.Author.Tests.{eq-eqb}
-use Rattle.codec.specs.Codec.{sameBytes, isImage, decodedBy}
+use Rattle.codec.specs.Codec.{sameBytes, sameAt, isImage, decodedBy}
 
 -- ---- equal bytes
 pub same-refl : (xs : List ℕ) → sameBytes xs xs ≡ true
@@ -23,6 +26,20 @@ same-equal (x ∷ xs) [] t = absurd t
 same-equal (x ∷ xs) (y ∷ ys) t =
     let both = and-yes (eqb x y) (sameBytes xs ys) t in
     cc (eqb→eq x y (both .0), same-equal xs ys (both .1))
+
+pub same-at :
+    (xs ys : List ℕ) (i : ℕ) → i + length xs ≤ length ys → sameBytes xs (take (length xs) (drop i ys)) ≡ sameAt xs i ys
+same-at [] ys i h = refl
+same-at (x ∷ xs) ys i h =
+    rw (drop-cons ys i 0 (omega arith)) (ap (λ (t : Bool). eqb x (getD ys i 0) && t) (same-at xs ys (suc i) (omega arith)))
+
+-- A row in two parts is compared part by part.
+pub same-joined :
+    (xs rest ys : List ℕ) → sameBytes (xs ++ rest) ys ≡ sameBytes xs (take (length xs) ys) && sameBytes rest (drop (length xs) ys)
+same-joined [] rest ys = refl
+same-joined (x ∷ xs) rest [] = refl
+same-joined (x ∷ xs) rest (y ∷ ys) =
+    ap (λ (t : Bool). eqb x y && t) (same-joined xs rest ys) ∙ sym (and-assoc (eqb x y) _ _)
 
 pub so : (t : Bool) → T t → t ≡ true
 so true h = refl

@@ -1,26 +1,26 @@
 -- The module's part of an image: the eight registers as they read, the phase with its parts, and the line; and the way back.
 -- A byte of an image is the number itself.
 use Prim.Native.Nat.{ℕ}
-use mathlib.Core.List.{List, [], _∷_}
+use mathlib.Core.Bool.{Bool, _&&_}
+use mathlib.Core.List.{List, [], _∷_, _++_}
 use mir.Val.{boolByte}
-use lib.Dec.{eqb}
-use lib.ListN.{getD}
+use lib.ListN.{getD, take, drop}
+use Rattle.codec.specs.Codec.{sameBytes}
 use Rattle.wire.specs.declared.Line.{Line}
 use Rattle.wire.specs.Byte.{bit}
 use Rattle.mssp.specs.declared.Config.{Config}
 use Rattle.mssp.specs.declared.Live.{Live}
+use Rattle.mssp.specs.declared.Phase.{Phase}
 use Rattle.mssp.specs.declared.Module.{Module}
 use Rattle.mssp.specs.Phases.{phaseNumber, bitsOf, phaseMark}
 use Rattle.mssp.specs.Module.{configOf, liveOf, moduleOf}
+use Rattle.mssp.specs.Valid.{valid}
 use Rattle.registers.specs.declared.Register.the-variants.{Buf, Stat, Con1, Con2, Con3, Add, Msk, Flag}
 use Rattle.registers.specs.Values.{valueOf}
-use Rattle.phase_image.specs.PhasePart.{phaseFrom, wireByte, wireFrom}
+use Rattle.phase_image.specs.PhasePart.{phaseFrom, wireByte, lineFrom, standPart}
 
 abbrev pub moduleLength : ℕ
 moduleLength = 16
-
-abbrev pub lineFrom : ℕ → ℕ → Line
-lineFrom byte mark = record { remembered = wireFrom byte; mark = eqb mark 1 }
 
 -- ---- the part: 0 to 7 the registers by number, 8 to 11 the phase, 12 and 13 the line, 14 and 15 zero
 abbrev pub modulePart : Module → List ℕ
@@ -56,3 +56,15 @@ moduleFrom b =
     (liveFrom (getD b 0 0) (getD b 1 0) (getD b 2 0) (getD b 3 0) (getD b 4 0) (getD b 7 0))
     (phaseFrom (getD b 8 0) (getD b 9 0) (getD b 10 0) (getD b 11 0))
     (lineFrom (getD b 12 0) (getD b 13 0))
+
+-- ---- bytes that begin with a module's part
+-- They begin with the part of the module that they name, and it is valid.
+abbrev pub isModule : List ℕ → Bool
+isModule b = sameBytes (modulePart (moduleFrom b)) (take moduleLength b) && valid (moduleFrom b)
+
+-- The same bytes with the part of another module, and with another phase and line alone.
+abbrev pub withModule : Module → List ℕ → List ℕ
+withModule m b = modulePart m ++ drop moduleLength b
+
+abbrev pub withStand : Phase → Line → List ℕ → List ℕ
+withStand ph line b = take 8 b ++ (standPart ph line ++ drop 14 b)

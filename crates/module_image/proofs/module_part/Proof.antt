@@ -8,9 +8,6 @@ module-part-spec =
     tie.close
     (tie.spec
     (λ c κs. search needs) (λ c κs. search needs) (λ c κs. search needs) (λ c κs. search needs) (λ c κs. search needs)
-    (λ c. search needs) (λ c κs. search needs) (λ c κs. search needs) (λ c κs. search needs) (λ c. search needs)
-    (λ c.
-    let number = c .before .before .before in
-    let con3 = number .before .before in
-    let con1 = con3 .before .before in
-    simp (con1 .before .before .before .bits-of .ensures, con1 .before .stat .ensures, con1 .con1 .ensures, con3 .before .con2 .ensures, con3 .con3 .ensures, number .phase-number .ensures, c .before .before .phase-mark .ensures, c .before .wire-byte .ensures)))
+    (λ c. search needs) (λ c. search needs) (λ c. search needs) (λ c. search needs) (λ c. search needs)
+    (λ c. search needs) (λ c. search needs)
+    (λ c. simp (c .before .stand-part .ensures, c .before .before .before .con3 .ensures, c .before .before .before .before .con2 .ensures, c .before .before .before .before .before .con1 .ensures, c .before .before .before .before .before .before .stat .ensures)))

@@ -1,0 +1,16 @@
+-- `module_image::is_part` meets its contract.
+use borrow.Author.Needs.{needs}
+use denote.Ref.{now}
+use Rattle.module_image.specs.Laws.{part-byte-by-byte}
+use Rattle.module_image.proofs.is_part.Statement.{statement}
+use Rattle.module_image.proofs.is_part.Tie as tie
+
+pub is-part-spec : {M : Type 1} → statement M
+is-part-spec =
+    tie.close
+    (tie.spec
+    (λ c. search needs) (λ c. search needs) (λ c. search needs) (λ c. search needs) (λ c. search needs)
+    (λ c. search needs) (λ c κs. search needs) (λ c. search needs) (λ c. search needs) (λ c. search needs)
+    (λ c. search needs) (λ c. search needs) (λ c. search needs) (λ c κs. search needs) (λ c. search needs)
+    (λ c. search needs)
+    (λ c. let a = c .before .before .before .before .before .before .before .before .before .before .before .before .before .before .before .before .args in part-byte-by-byte (now (a .b)) (c .before .before .before .before .before .before .before .before .before .before .before .before .before .before .before .before .pre) (c .before .before .before .before .before .before .before .before .before .are-held .ensures) (c .before .before .is-stand .ensures)))
