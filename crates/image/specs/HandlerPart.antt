@@ -4,7 +4,8 @@ use mathlib.Core.Bool.{Bool, _&&_}
 use mathlib.Core.List.{List, [], _∷_}
 use mir.Val.{boolByte}
 use lib.Dec.{eqb, ltb}
-use lib.ListN.{getD}
+use lib.ListN.{getD, take}
+use Rattle.codec.specs.Codec.{sameBytes}
 use Rattle.firmware.specs.declared.Handler.{Handler}
 use Rattle.firmware.specs.Handler.{isWindowLength, handlerOf}
 
@@ -26,6 +27,13 @@ handlerPart h =
 abbrev pub handlerFrom : List ℕ → Handler
 handlerFrom b = handlerOf (word (getD b 0 0) (getD b 1 0)) (word (getD b 2 0) (getD b 3 0)) (eqb (getD b 4 0) 1)
 
+abbrev pub handlerLength : ℕ
+handlerLength = 5
+
 -- An n that a window can have, and a pointer below n (01, "Calls, refusals and their order").
 abbrev pub handlerValid : Handler → Bool
 handlerValid h = isWindowLength (h .n) && ltb (h .pointer) (h .n)
+
+-- Bytes begin with the part of the handler that they name, and it is valid.
+abbrev pub isHandler : List ℕ → Bool
+isHandler b = sameBytes (handlerPart (handlerFrom b)) (take handlerLength b) && handlerValid (handlerFrom b)

@@ -4,7 +4,7 @@ use mathlib.Core.Bool.{Bool, _&&_}
 use mathlib.Core.List.{List, _++_}
 use mathlib.Core.Option.{Option, none, some}
 use lib.ListN.{length, drop, replicate}
-use Rattle.codec.specs.Codec.{decodedBy}
+use Rattle.codec.specs.Codec.{isImage, decodedBy}
 use Rattle.mssp.specs.Valid.{valid}
 use Rattle.firmware.specs.declared.State.{State}
 use Rattle.firmware.specs.Handler.{stateOf}
@@ -31,6 +31,10 @@ encodeOf s = padded imageLength (modulePart (s .mssp) ++ handlerPart (s .handler
 -- The state that bytes name, whether they are its image or not.
 unfoldable pub parseOf : List ℕ → State
 parseOf b = stateOf (moduleFrom b) (handlerFrom (drop moduleLength b))
+
+-- Bytes are a state's image: just that of the state that they name, and there is such a state.
+unfoldable pub isState : List ℕ → Bool
+isState b = isImage encodeOf parseOf validState b
 
 -- Bytes decode to the state that they name if they are just its image, and there is such a state.
 unfoldable pub decodeOf : List ℕ → Option State

@@ -3,15 +3,17 @@
 use Prim.Native.Nat.{ℕ}
 use mathlib.Core.Logic.{_↔_}
 use mathlib.Core.Path.{_≡_, sym, ap, _∙_}
+use mathlib.Core.Bool.{true, false}
 use mathlib.Core.List.{List}
-use mathlib.Core.Option.{none, some}
+use mathlib.Core.Option.{none, some, Option·none-ne-some}
 use lib.Dec.{T}
 use lib.ListN.{length}
+use Rattle.truth.specs.Tests.{by-test}
 use Rattle.codec.specs.Laws.{encode-apart, encoded-back, decoded-both, decoded-exactly, decoded-other}
 use Rattle.firmware.specs.declared.State.{State}
 use Rattle.image.specs.declared.Decoded.{Decoded}
 use Rattle.image.specs.declared.Decoded.the-variants.{Image}
-use Rattle.image.specs.Image.{imageLength, validState, encodeOf, parseOf, decodeOf, stateIn}
+use Rattle.image.specs.Image.{imageLength, validState, encodeOf, parseOf, isState, decodeOf, stateIn}
 use Rattle.image.specs.Laws.{parse-encode, encode-length}
 
 -- Every valid state comes back from its image.
@@ -41,6 +43,22 @@ module _ (b : List ℕ) where
 
   pub decode-length : (length b ≡ imageLength → ⊥) → decodeOf b ≡ none
   decode-length other = decode-other (λ s v e. other (sym (ap length e) ∙ encode-length s))
+
+  -- ---- by whether the bytes were found to be an image
+  pub is-state : isState b ≡ true → decodeOf b ≡ some (parseOf b)
+  unfolding isState decodeOf
+  is-state t = rw t
+
+  pub not-state : isState b ≡ false → decodeOf b ≡ none
+  unfolding isState decodeOf
+  not-state f = rw f
+
+  pub other-length : (length b ≡ imageLength → ⊥) → isState b ≡ false
+  other-length other =
+      by-test (isState b) (λ t. absurd (Option·none-ne-some (parseOf b) (sym (decode-length other) ∙ is-state t))) (λ f. f)
+
+  pub state-length : isState b ≡ true → length b ≡ imageLength
+  state-length t = sym (ap length (decode-image (parseOf b) (is-state t))) ∙ encode-length (parseOf b)
 
   -- Bytes that were found to be an image are as long as every other.
   pub image-length :

@@ -1,6 +1,8 @@
 // The handler's part of an image: n and the pointer, low byte first, and whether a pointer is due.
 ghost use mathlib.Core.Path.{_≡_};
-ghost use Rattle.image.specs.HandlerPart.{low as lowOf, high as highOf, word as wordOf, handlerPart, handlerFrom, handlerValid};
+ghost use Prim.Native.Nat.{_≤_};
+ghost use lib.ListN.{length};
+ghost use Rattle.image.specs.HandlerPart.{low as lowOf, high as highOf, word as wordOf, handlerLength, handlerPart, handlerFrom, handlerValid, isHandler};
 use firmware::Handler;
 use memory::peek;
 
@@ -46,8 +48,23 @@ pub fn handler_from(b: &[u8]) -> Handler
 }
 
 // An n that a window can have, and a pointer below it.
-pub fn handler_valid(h: Handler) -> bool
+fn is_valid(h: Handler) -> bool
     ensures { λ r. ⌜ r ≡ handlerValid h ⌝ }
 {
     firmware::is_window_length(h.n as u64) & (h.pointer < h.n)
+}
+
+// Whether bytes begin with the part of a valid handler.
+pub fn is_handler(b: &[u8]) -> bool
+    requires { ⌜ handlerLength ≤ length (now b) ⌝ }
+    ensures { λ r. ⌜ r ≡ isHandler (now (b .entry)) ⌝ }
+{
+    let h = handler_from(b);
+    let part = handler_part(h);
+    let same = (part[0] == b[0])
+        & (part[1] == b[1])
+        & (part[2] == b[2])
+        & (part[3] == b[3])
+        & (part[4] == b[4]);
+    same & is_valid(h)
 }

@@ -3,12 +3,17 @@ mod handler_part;
 
 ghost use mathlib.Core.Path.{_≡_};
 ghost use lib.ListN.{length};
-ghost use Rattle.image.specs.Image.{imageLength, encodeOf, parseOf, stateIn, decodeOf, validState};
+ghost use Rattle.image.specs.Image.{imageLength, encodeOf, parseOf, isState, stateIn, decodeOf};
 ghost use Rattle.codec.specs.Codec.{sameBytes};
 use firmware::State;
 use module_image::MODULE_LENGTH;
 
 pub const IMAGE_LENGTH: usize = 48;
+
+// How many bytes the two parts take, and how many zeros follow.
+const USED: usize = 21;
+
+const ZEROS: usize = 27;
 
 // What bytes are an image of.
 pub enum Decoded {
@@ -20,10 +25,9 @@ pub enum Decoded {
 pub fn encode(s: State) -> [u8; IMAGE_LENGTH]
     ensures { λ r. ⌜ r ≡ encodeOf s ⌝ }
 {
-    let module = module_image::module_part(s.mssp);
     let handler = handler_part::handler_part(s.handler);
     let mut image = [0u8; IMAGE_LENGTH];
-    bytes::copy(&module, &mut image);
+    module_image::save(s.mssp, &mut image);
     bytes::copy(&handler, &mut image[MODULE_LENGTH..]);
     image
 }
@@ -37,13 +41,6 @@ fn parse(bytes: &[u8]) -> State
         mssp: module_image::module_from(bytes),
         handler: handler_part::handler_from(&bytes[MODULE_LENGTH..]),
     }
-}
-
-// The module's clauses and the handler's.
-fn is_valid(s: State) -> bool
-    ensures { λ r. ⌜ r ≡ validState s ⌝ }
-{
-    validity::module_valid(s.mssp) & handler_part::handler_valid(s.handler)
 }
 
 // Whether rows of one length are the same. No byte is passed over, so that a processor may take many together.
@@ -60,17 +57,25 @@ fn same(a: &[u8], b: &[u8]) -> bool
     alike
 }
 
-// The state whose image the bytes are, of whatever length they are.
+// Whether the bytes are a state's image, of whatever length they are: judged part by part, and no state is built.
+pub fn is_image(bytes: &[u8]) -> bool
+    ensures { λ r. ⌜ r ≡ isState (now (bytes .entry)) ⌝ }
+{
+    if bytes.len() != IMAGE_LENGTH {
+        return false;
+    }
+    let zeros = [0u8; ZEROS];
+    module_image::is_module(bytes)
+        & handler_part::is_handler(&bytes[MODULE_LENGTH..])
+        & same(&zeros, &bytes[USED..])
+}
+
+// The state whose image the bytes are.
 pub fn decode(bytes: &[u8]) -> Decoded
     ensures { λ r. ⌜ stateIn r ≡ decodeOf (now (bytes .entry)) ⌝ }
 {
-    if bytes.len() != IMAGE_LENGTH {
-        return Decoded::NoImage;
-    }
-    let s = parse(bytes);
-    let image = encode(s);
-    if same(&image, bytes) & is_valid(s) {
-        Decoded::Image(s)
+    if is_image(bytes) {
+        Decoded::Image(parse(bytes))
     } else {
         Decoded::NoImage
     }

@@ -1,8 +1,8 @@
 -- `image::decode` meets its contract.
 use borrow.Author.Needs.{needs}
-use mathlib.Core.Path.{sym}
+use mathlib.Core.Path.{refl, sym, _∙_}
 use Rattle.image.specs.Laws.{decoded}
-use Rattle.image.specs.Theorems.{decode-length}
+use Rattle.image.specs.Theorems.{state-length}
 use Rattle.image.proofs.decode.Statement.{statement}
 use Rattle.image.proofs.decode.Tie as tie
 
@@ -10,13 +10,7 @@ pub decode-spec : {M : Type 1} → statement M
 decode-spec =
     tie.close
     (tie.spec
-    (λ c. sym (decode-length _ (c .if1 .taken)))
-    (λ c κs. search needs) (λ c κs. search needs) (λ c. search needs) (λ c κs. search needs) (λ c κs. search needs)
-    (λ c.
-    let compare = c .before .before in
-    let encoded = compare .before .before in
-    decoded _ (encoded .before .parse .ensures) (encoded .encode .ensures) (compare .same .ensures) (c .before .is-valid .ensures) (c .if2 .taken))
-    (λ c.
-    let compare = c .before .before in
-    let encoded = compare .before .before in
-    decoded _ (encoded .before .parse .ensures) (encoded .encode .ensures) (compare .same .ensures) (c .before .is-valid .ensures) (c .if2 .left)))
+    (λ c κs. search needs)
+    (λ c κs. state-length _ (sym (c .before .is-image .ensures) ∙ c .if1 .taken))
+    (λ c. decoded _ (c .before .before .is-image .ensures) (c .parse .ensures) (c .before .if1 .taken))
+    (λ c. decoded _ (c .before .is-image .ensures) refl (c .if1 .left)))

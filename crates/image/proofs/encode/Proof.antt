@@ -8,9 +8,6 @@ pub encode-spec : {M : Type 1} → statement M
 encode-spec =
     tie.close
     (tie.spec
-    (λ c κs. search needs) (λ c κs. search needs) (λ c. search needs) (λ c. search needs) (λ c κs. search needs)
-    (λ c. search needs) (λ c. search needs) (λ c. search needs) (λ c. search needs) (λ c κs. search needs)
-    (λ c.
-    let once = c .before .before .before .before .before in
-    let second = once .before .before .before in
-    parts-joined _ (second .before .module-part .ensures) (second .handler-part .ensures) (once .copy .ensures .1) (c .before .copy2 .ensures .1)))
+    (λ c κs. search needs) (λ c. search needs) (λ c κs. search needs) (λ c. search needs) (λ c. search needs)
+    (λ c. search needs) (λ c. search needs) (λ c κs. search needs)
+    (λ c. parts-joined _ (c .before .before .before .before .before .before .before .handler-part .ensures) (c .before .before .before .before .before .save .ensures) (c .before .copy .ensures .1)))
