@@ -12,12 +12,15 @@ use native.Mathlib.Numerals.{add-one}
 use Rattle.codec.specs.Codec.{sameBytes}
 use Rattle.codec.specs.Laws.{same-at, same-joined}
 use Rattle.wire.specs.Laws.{bool-back}
+use Rattle.wire.specs.declared.Line.{Line}
+use Rattle.mssp.specs.declared.Phase.{Phase}
 use Rattle.mssp.specs.declared.Module.{Module}
+use Rattle.mssp.specs.Module.{moduleOf}
 use Rattle.firmware.specs.declared.Handler.{Handler}
 use Rattle.firmware.specs.declared.State.{State}
 use Rattle.firmware.specs.Handler.{stateOf}
 use Rattle.mssp.specs.Valid.{valid}
-use Rattle.module_image.specs.ModulePart.{moduleLength, modulePart, moduleFrom, isModule, withModule}
+use Rattle.module_image.specs.ModulePart.{moduleLength, modulePart, moduleFrom, isModule, withModule, withStand}
 use Rattle.module_image.specs.Laws.{module-back}
 use Rattle.image.specs.HandlerPart.{low, high, word, handlerLength, handlerPart, handlerFrom, handlerValid, isHandler}
 use Rattle.image.specs.Image.{imageLength, encodeOf, parseOf, isState, decodeOf}
@@ -38,6 +41,17 @@ parse-encode s =
 pub encode-length : (s : State) → length (encodeOf s) ≡ imageLength
 unfolding encodeOf
 encode-length s = refl
+
+-- ---- another module, or another phase and line alone, written over an image
+pub with-module : (n : Module) (s : State) → withModule n (encodeOf s) ≡ encodeOf (stateOf n (s .handler))
+unfolding encodeOf
+with-module n s = refl
+
+pub with-stand :
+    (ph : Phase) (line : Line) (s : State)
+    → withStand ph line (encodeOf s) ≡ encodeOf (stateOf (moduleOf (s .mssp .config) (s .mssp .live) ph line) (s .handler))
+unfolding encodeOf
+with-stand ph line s = refl
 
 -- ---- what the code's steps come to
 -- The parts written one after the other over zeros.

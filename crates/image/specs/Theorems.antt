@@ -10,11 +10,17 @@ use lib.Dec.{T}
 use lib.ListN.{length}
 use Rattle.truth.specs.Tests.{by-test}
 use Rattle.codec.specs.Laws.{encode-apart, encoded-back, decoded-both, decoded-exactly, decoded-other}
+use Rattle.wire.specs.declared.Line.{Line}
+use Rattle.mssp.specs.declared.Phase.{Phase}
+use Rattle.mssp.specs.declared.Module.{Module}
+use Rattle.mssp.specs.Module.{moduleOf}
 use Rattle.firmware.specs.declared.State.{State}
+use Rattle.firmware.specs.Handler.{stateOf}
+use Rattle.module_image.specs.ModulePart.{withModule, withStand}
 use Rattle.image.specs.declared.Decoded.{Decoded}
 use Rattle.image.specs.declared.Decoded.the-variants.{Image}
 use Rattle.image.specs.Image.{imageLength, validState, encodeOf, parseOf, isState, decodeOf, stateIn}
-use Rattle.image.specs.Laws.{parse-encode, encode-length}
+use Rattle.image.specs.Laws.{parse-encode, encode-length, with-module, with-stand}
 
 -- Every valid state comes back from its image.
 pub decode-encode : (s : State) → T (validState s) → decodeOf (encodeOf s) ≡ some s
@@ -57,8 +63,23 @@ module _ (b : List ℕ) where
   other-length other =
       by-test (isState b) (λ t. absurd (Option·none-ne-some (parseOf b) (sym (decode-length other) ∙ is-state t))) (λ f. f)
 
+  pub state-image : isState b ≡ true → encodeOf (parseOf b) ≡ b
+  state-image t = decode-image (parseOf b) (is-state t)
+
+  pub state-valid : isState b ≡ true → T (validState (parseOf b))
+  state-valid t = decode-valid (parseOf b) (is-state t)
+
   pub state-length : isState b ≡ true → length b ≡ imageLength
-  state-length t = sym (ap length (decode-image (parseOf b) (is-state t))) ∙ encode-length (parseOf b)
+  state-length t = sym (ap length (state-image t)) ∙ encode-length (parseOf b)
+
+  -- What is written over a part of it leaves the image of a state.
+  pub module-over : isState b ≡ true → (n : Module) → withModule n b ≡ encodeOf (stateOf n (parseOf b .handler))
+  module-over t n = ap (withModule n) (sym (state-image t)) ∙ with-module n (parseOf b)
+
+  pub stand-over :
+      isState b ≡ true → (ph : Phase) (line : Line) → let s : State = parseOf b in
+      withStand ph line b ≡ encodeOf (stateOf (moduleOf (s .mssp .config) (s .mssp .live) ph line) (s .handler))
+  stand-over t ph line = ap (withStand ph line) (sym (state-image t)) ∙ with-stand ph line (parseOf b)
 
   -- Bytes that were found to be an image are as long as every other.
   pub image-length :

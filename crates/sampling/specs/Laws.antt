@@ -5,6 +5,7 @@ use mathlib.Core.Bool.{Bool, true, false, Bool·beq, _&&_}
 use Rattle.truth.specs.Tests.{never, and-first, and-second}
 use Rattle.wire.specs.declared.Line.{Line}
 use Rattle.wire.specs.declared.Edge.{Edge}
+use Rattle.wire.specs.declared.Remembered.{Remembered}
 use Rattle.wire.specs.declared.Remembered.the-variants.{Wire}
 use Rattle.wire.specs.Wire.{sclOf, sdaOf, onWire}
 use Rattle.wire.specs.Laws.{level-again}
@@ -34,10 +35,21 @@ module _ (m : Module) (scl sda mark : Bool) (stands : scl && mark ≡ mark) wher
   seen-again true = rw (level-again mark scl sda stands .0) (ap (λ (line : Line). moduleOf (m .config) (m .live) (m .phase) line) (level-again mark scl sda stands .1))
   seen-again false = ap (λ (line : Line). moduleOf (m .config) (m .live) (m .phase) line) (level-again mark scl sda stands .1)
 
-  pub sampled-still :
+  sampled-here :
       (level : ℕ) → isStill (m .phase) scl sda level ≡ true → sampled here (sclOf level) (sdaOf level) ≡ here
-  sampled-still level same =
+  sampled-here level same =
       let scls : Bool = Bool·beq (onWire (sclPulled (m .phase)) (sclOf level)) scl in
       let sdas : Bool = Bool·beq (onWire (sdaPulled (m .phase)) (sdaOf level)) sda in
       ap₂ (λ (a b : Bool). seenIf (m .config .sspen) here a b) (equal _ scl (and-first scls sdas same)) (equal _ sda (and-second scls sdas same))
       ∙ seen-again (m .config .sspen)
+
+abbrev seenBefore : Module → Remembered → Module
+seenBefore m rem = moduleOf (m .config) (m .live) (m .phase) (record { remembered = rem; mark = m .line .mark })
+
+-- The law of the short way, for a mark that stands with SCL high alone.
+pub sampled-still :
+    (m : Module) {scl sda : Bool} (level : ℕ) → m .line .remembered ≡ Wire scl sda → scl && m .line .mark ≡ m .line .mark
+    → isStill (m .phase) scl sda level ≡ true → sampled m (sclOf level) (sdaOf level) ≡ m
+sampled-still m {scl} {sda} level e stands same =
+    subst (λ (rem : Remembered). sampled (seenBefore m rem) (sclOf level) (sdaOf level) ≡ seenBefore m rem) (sym e)
+    (sampled-here m scl sda (m .line .mark) stands level same)

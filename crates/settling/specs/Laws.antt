@@ -26,9 +26,9 @@ laid-over image bytes l e =
 
 module _ (item : ℕ) (image bytes : List ℕ) where
   pub settle-done :
-      {verdict : Verdict} {value : ℕ} {left : List ℕ} → verdict ≡ Done value → left ≡ image
-      → outcome (done value) left ≡ settled verdict item image bytes
-  settle-done e f = rw (e, f)
+      {verdict : Verdict} {value : ℕ} {r : Answer} {left : List ℕ} → verdict ≡ Done value → r ≡ done value → left ≡ image
+      → outcome r left ≡ settled verdict item image bytes
+  settle-done e f g = rw (e, f, g)
 
   pub settle-refused :
       {verdict : Verdict} {why : Refusal} {r : Answer} → verdict ≡ Refused why → r ≡ refused why item
@@ -52,22 +52,11 @@ module _ {S A : Type 0} {known found : Option S} (decoded : found ≡ known) (no
   of-state e f = rw (sym decoded ∙ e) f
 
 -- ---- a register access
-module _ (bytes : List ℕ) where
-  -- The module that an access left, written with the rest of its state.
-  pub access-written :
-      (imageWith : Module → List ℕ) (access : Access) {image : List ℕ} {o : Outcome} → image ≡ imageWith (access .mssp)
-      → o ≡ settled (access .verdict) 0 (imageOver image bytes) bytes
-      → o ≡ settledAccess (λ m. imageOver (imageWith m) bytes) access bytes
-  access-written imageWith access e f = f ∙ ap (λ (i : List ℕ). settled (access .verdict) 0 (imageOver i bytes) bytes) e
-
-  -- An access to the state that the bytes decode to, whose images are as long as they are.
-  pub access-settled :
-      {S : Type 0} (moduleIn : S → Module) (imageWith : S → Module → List ℕ) (work : Module → Access) {known found : Option S} {s : S}
-      {access : Access} {o : Outcome} → found ≡ known → found ≡ some s
-      → length bytes ≡ length (imageWith s (work (moduleIn s) .mssp)) → access ≡ work (moduleIn s)
-      → o ≡ settledAccess (λ m. imageOver (imageWith s m) bytes) access bytes → o ≡ byAccess moduleIn imageWith known work bytes
-  access-settled moduleIn imageWith work {s = s} decoded is l e f =
-      let a = work (moduleIn s) in
-      of-state decoded (noState bytes) (λ t. settledAccess (imageWith t) (work (moduleIn t)) bytes) is
-      (settled-whole (a .verdict) 0 (imageWith s (a .mssp)) bytes l refl
-      (f ∙ ap (λ (x : Access). settledAccess (λ m. imageOver (imageWith s m) bytes) x bytes) e))
+-- An access to the module of the state that the bytes decode to.
+pub access-settled :
+    {S : Type 0} (moduleIn : S → Module) (imageWith : S → Module → List ℕ) (work : Module → Access) (bytes : List ℕ)
+    {known : Option S} {s : S} {access : Access} {o : Outcome} → known ≡ some s → access ≡ work (moduleIn s)
+    → o ≡ settledAccess (imageWith s) access bytes → o ≡ byAccess moduleIn imageWith known work bytes
+access-settled moduleIn imageWith work bytes {s = s} is e f =
+    of-state refl (noState bytes) (λ t. settledAccess (imageWith t) (work (moduleIn t)) bytes) is
+    (f ∙ ap (λ (x : Access). settledAccess (imageWith s) x bytes) e)

@@ -2,7 +2,7 @@
 // image written where the call is done.
 ghost use mathlib.Core.Path.{_≡_};
 ghost use Rattle.refusals.specs.declared.Refusal.the-variants.{NoState};
-ghost use Rattle.settling.specs.Outcome.{outcome, refused, imageOver, settled};
+ghost use Rattle.settling.specs.Outcome.{outcome, done as doneWith, refused, imageOver, settled};
 use refusals::Refusal;
 use refusals::Verdict;
 
@@ -21,6 +21,16 @@ pub fn refuse(why: Refusal, item: u64) -> Answer
         refusal: refusals::number(why) as u32,
         value: 0,
         item: item,
+    }
+}
+
+pub fn done(value: u8) -> Answer
+    ensures { λ r. ⌜ r ≡ doneWith value ⌝ }
+{
+    Answer {
+        refusal: 0,
+        value: value as u32,
+        item: 0,
     }
 }
 
@@ -47,11 +57,7 @@ pub fn settle(state: &mut [u8], verdict: Verdict, item: u64, image: &[u8]) -> An
     match verdict {
         Verdict::Done(value) => {
             lay_over(state, image);
-            Answer {
-                refusal: 0,
-                value: value as u32,
-                item: 0,
-            }
+            done(value)
         }
         Verdict::Refused(why) => refuse(why, item),
     }

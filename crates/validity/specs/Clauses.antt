@@ -4,7 +4,7 @@ use Rattle.wire.specs.declared.Line.{Line}
 use Rattle.mssp.specs.declared.Phase.{Phase}
 use Rattle.mssp.specs.Valid.{partsFit, offFits, markFits, eightFit, holdFits}
 
-abbrev pub clauses : Bool → Bool → Bool → Bool → Bool → Phase → Line → Bool
-clauses s p sspen modelled ckp ph line =
+abbrev pub validBy : Bool → Bool → Bool → Bool → Bool → Phase → Line → Bool
+validBy s p sspen modelled ckp ph line =
     partsFit ph && not (s && p) && (not sspen || modelled) && offFits sspen ph (line .mark)
     && markFits (line .mark) s (line .remembered) ph && eightFit ph (line .remembered) && holdFits ph ckp

@@ -3,7 +3,7 @@ ghost use mathlib.Core.Path.{_≡_};
 ghost use Rattle.wire.specs.Wire.{sclHigh};
 ghost use Rattle.mssp.specs.Phases.{isQuiet};
 ghost use Rattle.mssp.specs.Valid.{bitsFit, partsFit, addressBegins};
-ghost use Rattle.validity.specs.Clauses.{clauses};
+ghost use Rattle.validity.specs.Clauses.{validBy};
 use mssp::Phase;
 use wire::Bits;
 use wire::Line;
@@ -67,7 +67,7 @@ pub fn is_valid(
     phase: Phase,
     line: Line,
 ) -> bool
-    ensures { λ r. ⌜ r ≡ clauses s p sspen modelled ckp phase line ⌝ }
+    ensures { λ r. ⌜ r ≡ validBy s p sspen modelled ckp phase line ⌝ }
 {
     let mark = line.mark;
     let remembered = line.remembered;
