@@ -73,6 +73,11 @@ pub parsed :
 unfolding parseOf
 parsed b e f = simp (e, f, to-end moduleLength b)
 
+-- The module of the state that bytes name is the one that they name.
+pub named : (b : List ℕ) → moduleFrom b ≡ parseOf b .mssp
+unfolding parseOf
+named b = refl
+
 -- Comparing byte by byte: what was found so far, and what the rest comes to.
 module _ (xs ys : List ℕ) (i : ℕ) (found : Bool) (l : length xs ≡ length ys) where
   pub same-on :

@@ -2,59 +2,103 @@
 // a question which address hits.
 // Refusals are looked at in the paper's order, and a refused call changes no byte.
 ghost use mathlib.Core.Path.{_≡_};
-ghost use Rattle.settling.specs.Outcome.{outcome, imageOver, settledAccess};
+ghost use Prim.Native.Nat.{_≤_};
+ghost use mathlib.Core.Bool.{true};
+ghost use Rattle.trace.specs.Run.{sampledBy};
+ghost use Rattle.image.specs.Image.{encodeOf, parseOf, isState};
+ghost use Rattle.settling.specs.Outcome.{outcome, done, settledAccess};
 ghost use Rattle.module_calls.specs.Calls.{imageWith, doorRead, doorWrite, doorSample, doorLook, doorHit};
-use firmware::State;
 use image::Decoded;
 use refusals::Refusal;
 use refusals::Verdict;
 use registers::Access;
 use settling::Answer;
 use view::View;
+use wire::Remembered;
 
-// A register access reaches the module alone.
-fn settle_access(state: &mut [u8], access: Access, s: State) -> Answer
-    ensures { λ r. ⌜ outcome r (now (state .exit)) ≡ settledAccess (λ m. imageOver (imageWith s m) (now (state .entry))) access (now (state .entry)) ⌝ }
+// A register access reaches the module alone: nothing else of the image is written.
+fn settle_access(state: &mut [u8], access: Access) -> Answer
+    requires { ⌜ isState (now state) ≡ true ⌝ }
+    ensures { λ r. ⌜ outcome r (now (state .exit)) ≡ settledAccess (imageWith (parseOf (now (state .entry)))) access (now (state .entry)) ⌝ }
 {
     let verdict = access.verdict;
     let left = access.mssp;
-    let image = image::encode(State { mssp: left, ..s });
-    settling::settle(state, verdict, 0, &image)
+    match verdict {
+        Verdict::Done(value) => {
+            module_image::save(left, state);
+            settling::done(value)
+        }
+        Verdict::Refused(why) => settling::refuse(why, 0),
+    }
 }
 
 // Reads a register. Refuses with 6, 1.
 pub fn read(state: &mut [u8], number: u32) -> Answer
     ensures { λ r. ⌜ outcome r (now (state .exit)) ≡ doorRead (now (state .entry)) number ⌝ }
 {
-    match image::decode(state) {
-        Decoded::NoImage => settling::no_state(),
-        Decoded::Image(s) => settle_access(state, registers::read(s.mssp, number), s),
+    if !image::is_image(state) {
+        return settling::no_state();
     }
+    let m = module_image::module_from(state);
+    settle_access(state, registers::read(m, number))
 }
 
-// Writes a register. Refuses with 6, 1, 2, 3.
+// Writes a register. Refuses with 6, 1, 2, 3, 8.
 pub fn write(state: &mut [u8], number: u32, value: u8) -> Answer
     ensures { λ r. ⌜ outcome r (now (state .exit)) ≡ doorWrite (now (state .entry)) number value ⌝ }
 {
-    match image::decode(state) {
-        Decoded::NoImage => settling::no_state(),
-        Decoded::Image(s) => settle_access(state, writes::write(s.mssp, number, value), s),
+    if !image::is_image(state) {
+        return settling::no_state();
     }
+    let m = module_image::module_from(state);
+    settle_access(state, writes::write(m, number, value))
 }
 
-// Feeds one sample. Refuses with 6, 4 (a level above 3).
+// A sample that moves something. Where the level is a stretch of its own, the registers' bytes stay; else the module is built,
+// and its part written. Called from two places, this stays a function by itself, and the short way does without its frame.
+fn move_on(state: &mut [u8], level: u8) -> Answer
+    requires { ⌜ isState (now state) ≡ true ⌝ }
+    requires { ⌜ level ≤ 3 ⌝ }
+    ensures { λ r. ⌜ outcome r (now (state .exit)) ≡ outcome (done 0) (encodeOf (sampledBy (parseOf (now (state .entry))) level)) ⌝ }
+{
+    let s = module_image::stand_in(state);
+    let ahead = stretch::over(s, level);
+    if ahead.length > 0 {
+        let phase = ahead.phase;
+        let line = stretch::line_of(ahead.wire);
+        module_image::save_stand(phase, line, state);
+        return settling::done(0);
+    }
+    let m = module_image::module_from(state);
+    let fed = samples::feed(m, &[level]);
+    let next = fed.mssp;
+    module_image::save(next, state);
+    settling::done(0)
+}
+
+// Feeds one sample. Refuses with 6, 4 (a level above 3). The short way: a level that is on the wire what is remembered of it
+// leaves every byte as it is.
 pub fn sample(state: &mut [u8], level: u32) -> Answer
     ensures { λ r. ⌜ outcome r (now (state .exit)) ≡ doorSample (now (state .entry)) level ⌝ }
 {
-    match image::decode(state) {
-        Decoded::NoImage => settling::no_state(),
-        Decoded::Image(s) => {
-            if level > 3 {
-                return settling::refuse(Refusal::NoItem, 0);
+    if !image::is_image(state) {
+        return settling::no_state();
+    }
+    if level > 3 {
+        return settling::refuse(Refusal::NoItem, 0);
+    }
+    let s = module_image::stand_in(state);
+    let phase = s.phase;
+    let line = s.line;
+    let remembered = line.remembered;
+    match remembered {
+        Remembered::Nothing => move_on(state, level as u8),
+        Remembered::Wire(scl, sda) => {
+            if sampling::is_still(phase, scl, sda, level as u8) {
+                settling::done(0)
+            } else {
+                move_on(state, level as u8)
             }
-            let next = trace::sample(s, level as u8);
-            let image = image::encode(next);
-            settling::settle(state, Verdict::Done(0), 0, &image)
         }
     }
 }

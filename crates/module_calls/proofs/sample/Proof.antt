@@ -1,30 +1,52 @@
 -- `module_calls::sample` meets its contract.
 use borrow.Author.Needs.{needs}
-use mathlib.Core.Path.{ap, _∙_}
-use Rattle.trace.specs.Laws.{level-sampled}
-use Rattle.image.specs.Image.{stateIn}
-use Rattle.image.specs.Theorems.{image-length}
+use mathlib.Core.Path.{refl, sym, _∙_}
+use denote.Ref.{now}
+use borrow.Author.Tests.{not-true, not-false}
+use Rattle.image.specs.Theorems.{is-state, not-state}
 use Rattle.settling.specs.Laws.{no-image, of-state}
-use Rattle.module_calls.specs.Laws.{level-refused, level-settled}
+use Rattle.module_calls.specs.Laws.{long-enough, level-refused, level-settled, short-way}
 use Rattle.module_calls.proofs.sample.Statement.{statement}
 use Rattle.module_calls.proofs.sample.Tie as tie
 
-what-the-sample-leaves : tie.Need-returns-3
-what-the-sample-leaves c =
-    let sample = c .before .before .before .before .before .before in
-    let is = sample .before .before .before .s .given .1 in
-    let decoded = sample .before .before .before .before .before .decode .ensures in
-    of-state decoded _ _ (ap stateIn is) (level-settled _ _ (sample .before .if1 .left) (image-length _ _ decoded is) (sample .sample .ensures ∙ level-sampled _ _ (sample .before .if1 .left)) (c .before .before .before .before .before .encode .ensures) (c .before .before .settle .ensures))
+no-such-level : tie.Need-returns-2
+no-such-level c =
+    let found = (sym (c .before .before .before .is-image .ensures) ∙ not-false _ (c .before .before .if1 .left)) in
+    of-state refl _ _ (is-state _ found) (level-refused _ _ _ (c .before .if2 .taken) (c .refuse .ensures))
+
+the-first-level : tie.Need-returns-3
+the-first-level c =
+    let found = (sym (c .before .before .before .before .before .before .before .before .before .before .before .is-image .ensures) ∙ not-false _ (c .before .before .before .before .before .before .before .before .before .before .if1 .left)) in
+    of-state refl _ _ (is-state _ found) (level-settled _ _ _ (c .before .before .before .before .before .before .before .before .before .if2 .left) (c .before .before .move-on .ensures))
+
+the-same-level : tie.Need-returns-4
+the-same-level c =
+    let start = c .before .before .before .before .before .before .before .before .before .before .before .before .before .before in
+    let found = (sym (c .before .before .before .before .before .before .before .before .before .before .before .is-image .ensures) ∙ not-false _ (c .before .before .before .before .before .before .before .before .before .before .if1 .left)) in
+    of-state refl _ _ (is-state _ found) (level-settled _ _ _ (c .before .before .before .before .before .before .before .before .before .if2 .left)
+    (short-way (now (start .args .state)) found (start .args .level) (c .before .before .before .before .before .before .before .stand-in .ensures) (c .before .before .before .before .remembered .given .1) (c .before .before .is-still .ensures) (c .before .if3 .taken) (c .done .ensures)))
+
+another-level : tie.Need-returns-5
+another-level c =
+    let found = (sym (c .before .before .before .before .before .before .before .before .before .before .before .before .before .before .is-image .ensures) ∙ not-false _ (c .before .before .before .before .before .before .before .before .before .before .before .before .before .if1 .left)) in
+    of-state refl _ _ (is-state _ found) (level-settled _ _ _ (c .before .before .before .before .before .before .before .before .before .before .before .before .if2 .left) (c .before .before .move-on2 .ensures))
 
 pub sample-spec : {M : Type 1} → statement M
 sample-spec =
     tie.close
     (tie.spec
-    (λ c κs. search needs) (λ c. search needs) (λ c κs. search needs) (λ c. search needs) (λ c κs. search needs)
+    (λ c κs. search needs) (λ c κs. search needs) (λ c. search needs)
+    (λ c. no-image refl _ _ (not-state _ (sym (c .before .before .is-image .ensures) ∙ not-true _ (c .before .if1 .taken))) (simp (c .no-state .ensures)))
+    (λ c κs. search needs) (λ c. search needs)
+    no-such-level
+    (λ c κs. long-enough _ (sym (c .before .before .before .is-image .ensures) ∙ not-false _ (c .before .before .if1 .left)))
+    (λ c. search needs) (λ c. search needs)
+    (λ c κs. ((sym (c .before .before .before .before .before .before .before .before .is-image .ensures) ∙ not-false _ (c .before .before .before .before .before .before .before .if1 .left)), c .before .before .before .before .before .before .if2 .left))
+    (λ c. search needs) (λ c. search needs) (λ c κs. search needs) (λ c κs. search needs) (λ c. search needs)
+    (λ c κs. ((sym (c .before .before .before .before .before .before .before .before .before .before .before .is-image .ensures) ∙ not-false _ (c .before .before .before .before .before .before .before .before .before .before .if1 .left)), c .before .before .before .before .before .before .before .before .before .if2 .left))
     (λ c. search needs)
-    (λ c. of-state (c .before .before .before .before .before .decode .ensures) _ _ (ap stateIn (c .before .before .before .s .given .1)) (level-refused _ _ _ (c .before .if1 .taken) (c .refuse .ensures)))
-    (λ c. search needs) (λ c κs. search needs) (λ c κs. search needs) (λ c. search needs) (λ c κs. search needs)
+    the-first-level
     (λ c. search needs)
-    (λ c. no-image (c .before .before .before .decode .ensures) _ _ (ap stateIn (c .before .enum-told .given .1)) (simp (c .no-state .ensures)))
+    the-same-level
     (λ c. search needs)
-    what-the-sample-leaves)
+    another-level)

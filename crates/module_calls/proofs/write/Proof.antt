@@ -1,29 +1,34 @@
 -- `module_calls::write` meets its contract.
 use borrow.Author.Needs.{needs}
-use mathlib.Core.Path.{ap}
+use mathlib.Core.Path.{refl, sym, ap, _∙_}
 use denote.Ref.{now}
+use borrow.Author.Tests.{not-true, not-false}
 use Rattle.writes.specs.Writes.{writeOf}
-use Rattle.image.specs.Image.{stateIn}
-use Rattle.image.specs.Theorems.{image-length}
+use Rattle.mssp.specs.declared.Module.{Module}
+use Rattle.image.specs.Laws.{named}
+use Rattle.image.specs.Theorems.{is-state, not-state}
 use Rattle.settling.specs.Laws.{no-image, access-settled}
 use Rattle.module_calls.specs.Calls.{moduleIn, imageWith}
+use Rattle.module_calls.specs.Laws.{long-enough}
 use Rattle.module_calls.proofs.write.Statement.{statement}
 use Rattle.module_calls.proofs.write.Tie as tie
 
 what-the-write-leaves : tie.Need-returns-2
 what-the-write-leaves c =
-    let write = c .before .before .before in
-    let decoded = write .before .before .before .before .before .decode .ensures in
-    let is = write .before .before .before .s .given .1 in
-    let a = write .before .before .before .before .before .before .before .before .args in
-    access-settled (now (a .state)) moduleIn imageWith (λ m. writeOf m (a .number) (a .value)) decoded (ap stateIn is) (image-length (now (a .state)) _ decoded is) (write .write .ensures) (c .before .before .settle-access .ensures)
+    let asked = c .before .before .before .before .before .before .before .before in
+    let start = asked .before .before .before in
+    let b = now (start .args .state) in
+    let found = sym (asked .is-image .ensures) ∙ not-false _ (c .before .before .before .before .before .before .before .if1 .left) in
+    access-settled moduleIn imageWith (λ (m : Module). writeOf m (start .args .number) (start .args .value)) b (is-state b found) (c .before .before .before .write .ensures ∙ ap (λ (m : Module). writeOf m (start .args .number) (start .args .value)) (c .before .before .before .before .before .module-from .ensures ∙ named b)) (c .before .before .settle-access .ensures)
 
 pub write-spec : {M : Type 1} → statement M
 write-spec =
     tie.close
     (tie.spec
-    (λ c κs. search needs) (λ c. search needs) (λ c κs. search needs) (λ c. search needs) (λ c κs. search needs)
-    (λ c κs. search needs) (λ c. search needs)
-    (λ c. no-image (c .before .before .before .decode .ensures) _ _ (ap stateIn (c .before .enum-told .given .1)) (simp (c .no-state .ensures)))
+    (λ c κs. search needs) (λ c κs. search needs) (λ c. search needs)
+    (λ c. no-image refl _ _ (not-state _ (sym (c .before .before .is-image .ensures) ∙ not-true _ (c .before .if1 .taken))) (simp (c .no-state .ensures)))
+    (λ c κs. long-enough _ (sym (c .before .before .is-image .ensures) ∙ not-false _ (c .before .if1 .left)))
+    (λ c κs. search needs)
+    (λ c κs. sym (c .before .before .before .before .before .is-image .ensures) ∙ not-false _ (c .before .before .before .before .if1 .left))
     (λ c. search needs)
     what-the-write-leaves)
