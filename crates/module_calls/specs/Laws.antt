@@ -1,6 +1,6 @@
 -- What the code of these calls knows on each way, and what follows: of bytes that were found to be an image.
 use Prim.Native.Nat.{ℕ, _<_, _≤_}
-use mathlib.Core.Path.{_≡_, refl, sym, ap, ap₂, _∙_}
+use mathlib.Core.Path.{_≡_, sym, ap, ap₂, _∙_}
 use mathlib.Core.Bool.{Bool, true, false, _&&_, and-false}
 use mathlib.Core.List.{List, [], _∷_}
 use native.Mathlib.Omega.{arith}
@@ -14,7 +14,7 @@ use Rattle.refusals.specs.declared.Verdict.the-variants.{Done, Refused}
 use Rattle.codec.specs.Laws.{so}
 use Rattle.wire.specs.declared.Line.{Line}
 use Rattle.wire.specs.declared.Remembered.{Remembered}
-use Rattle.wire.specs.declared.Remembered.the-variants.{Nothing, Wire}
+use Rattle.wire.specs.declared.Remembered.the-variants.{Wire}
 use Rattle.wire.specs.Wire.{sclHigh}
 use Rattle.mssp.specs.declared.Phase.{Phase}
 use Rattle.mssp.specs.declared.Module.{Module}

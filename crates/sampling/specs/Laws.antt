@@ -4,7 +4,6 @@ use mathlib.Core.Path.{_≡_, refl, ap, ap₂, subst, sym, _∙_}
 use mathlib.Core.Bool.{Bool, true, false, Bool·beq, _&&_}
 use Rattle.truth.specs.Tests.{never, and-first, and-second}
 use Rattle.wire.specs.declared.Line.{Line}
-use Rattle.wire.specs.declared.Edge.{Edge}
 use Rattle.wire.specs.declared.Remembered.{Remembered}
 use Rattle.wire.specs.declared.Remembered.the-variants.{Wire}
 use Rattle.wire.specs.Wire.{sclOf, sdaOf, onWire}
@@ -12,8 +11,7 @@ use Rattle.wire.specs.Laws.{level-again}
 use Rattle.mssp.specs.declared.Module.{Module}
 use Rattle.mssp.specs.Module.{moduleOf}
 use Rattle.mssp.specs.Drivers.{sclPulled, sdaPulled}
-use Rattle.sampling.specs.declared.Moved.{Moved}
-use Rattle.sampling.specs.Rules.{edgeStep, seenIf, sampled}
+use Rattle.sampling.specs.Rules.{seenIf, sampled}
 use Rattle.sampling.specs.Still.{isStill}
 
 equal : (a b : Bool) → Bool·beq a b ≡ true → a ≡ b

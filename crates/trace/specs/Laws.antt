@@ -1,22 +1,18 @@
 -- The ways through a step and a window: what the code knows on each, and what follows.
 use Prim.Native.Nat.{ℕ, _<_, _≤_}
 use mathlib.Core.Path.{_≡_, refl, sym, ap, ap₂, _∙_}
-use mathlib.Core.Bool.{Bool, true, false, cond, not}
-use mathlib.Core.List.{List, [], _∷_}
+use mathlib.Core.Bool.{Bool, true, false, not}
+use mathlib.Core.List.{List}
 use native.Mathlib.Omega.{arith}
 use lib.Dec.{eqb, ltb}
 use lib.ListN.{length}
 use borrow.Author.Tests.{lt-ltb, le-ltb, eq-eqb, ne-eqb, not-true, not-false}
 use Rattle.refusals.specs.declared.Refusal.the-variants.{NoWindow, NoItem}
 use Rattle.refusals.specs.declared.Verdict.the-variants.{Done, Refused}
-use Rattle.mssp.specs.declared.Module.{Module}
-use Rattle.stretch.specs.Walk.{walked}
-use Rattle.samples.specs.declared.Fed.{Fed}
-use Rattle.samples.specs.Samples.{sampledAt, fedOf}
 use Rattle.firmware.specs.declared.State.{State}
-use Rattle.firmware.specs.Handler.{Served, served, stateOf, called}
+use Rattle.firmware.specs.Handler.{Served, served, called}
 use Rattle.firmware.specs.Window.{windowFits, windowOutcome, workDone}
-use Rattle.trace.specs.Run.{firstBad, sampledBy, levelTaken, byteStepIf, byteStep}
+use Rattle.trace.specs.Run.{firstBad, byteStepIf, byteStep}
 use Rattle.trace.specs.Window.{ranIn, runChoice, runInOf}
 
 -- ---- one item
@@ -29,21 +25,6 @@ module _ (s : State) (bytes : List ℕ) (item : ℕ) where
 
   pub step-idle : 4 ≤ item → (item ≡ 4 → ⊥) → served s bytes ≡ byteStep s bytes item
   step-idle h n = by-tests false false (le-ltb item 4 h) (ne-eqb item 4 n)
-
--- ---- one level, fed to the module
-level-if : (t : Bool) (s : State) (m : Module) → stateOf (cond t (s .mssp) m) (s .handler) ≡ cond t s (stateOf m (s .handler))
-level-if true s m = refl
-level-if false s m = refl
-
-pub level-fed :
-    (s : State) (level : ℕ) {r : Fed} {next : State} → r ≡ fedOf (s .mssp) (level ∷ []) → next ≡ stateOf (r .mssp) (s .handler)
-    → next ≡ levelTaken s level
-unfolding walked
-level-fed s level e f =
-    f ∙ ap (λ (x : Fed). stateOf (x .mssp) (s .handler)) e ∙ level-if (ltb 3 level) s (sampledAt (s .mssp) level)
-
-pub level-sampled : (s : State) (level : ℕ) → level ≤ 3 → levelTaken s level ≡ sampledBy s level
-level-sampled s level h = rw (le-ltb 3 level h)
 
 -- ---- the window
 module _ (s : State) (buffer : List ℕ) (start n : ℕ) (items : List ℕ) {f : Bool} (fits : f ≡ windowFits (length buffer) start n (s .handler .n)) where

@@ -1,6 +1,6 @@
 -- A run (01, "Calls, refusals and their order"): a trace of bytes, 0 to 3 a sample, 4 a handler call.
 use Prim.Native.Nat.{ℕ}
-use mathlib.Core.Bool.{Bool, true, false, cond}
+use mathlib.Core.Bool.{Bool, true, false}
 use mathlib.Core.List.{List, map}
 use lib.Dec.{eqb, ltb}
 use Rattle.items.specs.First.{firstAbove}
@@ -19,10 +19,6 @@ firstBad items = firstAbove 4 items
 -- A sample moves the module; the handler's variables stay.
 abbrev pub sampledBy : State → ℕ → State
 sampledBy s level = stateOf (sampled (s .mssp) (sclOf level) (sdaOf level)) (s .handler)
-
--- A level is 0 to 3: what is above takes nothing.
-abbrev pub levelTaken : State → ℕ → State
-levelTaken s level = cond (ltb 3 level) s (sampledBy s level)
 
 -- A byte of a trace as an item.
 abbrev pub itemIf : Bool → Bool → ℕ → Item

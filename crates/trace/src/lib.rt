@@ -4,7 +4,7 @@ ghost use Prim.Native.Nat.{_+_, _≤_};
 ghost use lib.ListN.{length};
 ghost use Rattle.firmware.specs.Handler.{served, stateOf};
 ghost use Rattle.firmware.specs.Window.{windowOutcome};
-ghost use Rattle.trace.specs.Run.{levelTaken, runOf};
+ghost use Rattle.trace.specs.Run.{runOf};
 ghost use Rattle.trace.specs.Window.{ranIn, runInOf};
 use firmware::State;
 use mssp::Module;
@@ -22,16 +22,6 @@ fn with_module(s: State, m: Module) -> State
     ensures { λ r. ⌜ r ≡ stateOf m (s .handler) ⌝ }
 {
     State { mssp: m, ..s }
-}
-
-// One sample, fed to the module. A level above 3 is none, and changes nothing.
-pub fn sample(s: State, level: u8) -> State
-    ensures { λ r. ⌜ r ≡ levelTaken s level ⌝ }
-{
-    let m = s.mssp;
-    let fed = samples::feed(m, &[level]);
-    let next = fed.mssp;
-    with_module(s, next)
 }
 
 // All the items, in their order: the samples up to the next that is none, then what that one is.
