@@ -14,9 +14,22 @@ enum { IMAGE = WHERRYOAR_STATE_LENGTH, CALL = CAPTURE_CALL, ADD = CAPTURE_ADD, N
 enum { RUN, SECOND_RUN, SAMPLE, SECOND_SAMPLE };
 static const char *const names[KINDS] = {"wherryoar_run", "second_run", "wherryoar_sample", "second_sample"};
 
+/* What a sample does: it moves something, or the wire is the one remembered and every byte stays (the short way). */
+enum { MOVING, STILL, NEITHER, EFFECTS };
+static const char *const effects[EFFECTS] = {"moving", "still", "neither"};
+
+/* A sample by itself: the state before it, its level, and what it does. */
+typedef struct {
+    uint8_t before[IMAGE], level, effect;
+} lone_sample;
+
 /* The capture, and the state and memory that it is fed to. */
 static capture fed;
 static uint8_t image[IMAGE], memory[N];
+
+/* The samples of the capture by themselves, and how many have each effect. */
+static lone_sample lone[CAPTURE_LONGEST];
+static size_t lone_samples, with_effect[EFFECTS];
 
 /* ---- Feeding ---- */
 
@@ -75,6 +88,67 @@ static int all_the_same(void)
     return same && memcmp(first_memory, memory, N) != 0;
 }
 
+/* ---- Samples by themselves ---- */
+
+/* Takes a sample with the state before it, as the second program has it. */
+static uint32_t take_sample(uint8_t level)
+{
+    lone_sample *s = &lone[lone_samples++];
+    uint32_t refused;
+
+    memcpy(s->before, image, IMAGE);
+    refused = second_sample(image, IMAGE, level).refusal;
+    s->level = level;
+    s->effect = memcmp(s->before, image, IMAGE) == 0 ? STILL : MOVING;
+    with_effect[s->effect]++;
+    return refused;
+}
+
+/* Takes every sample of the capture; a handler call between them is made and is none. */
+static int take_samples(void)
+{
+    uint32_t refused = second_setup(image, IMAGE, ADD, N).refusal;
+    size_t i;
+
+    memset(memory, 0, N);
+    for (i = 0; i < fed.length; i++)
+        refused |= fed.items[i] == CALL ? second_call(image, IMAGE, memory, N, 0, N).refusal : take_sample(fed.items[i]);
+    return refused == 0;
+}
+
+/* Lays the state before each sample, and feeds those that have one effect to the archive or to the second program. */
+static int feed_lone(int kind, int effect)
+{
+    uint32_t refused = 0;
+    size_t i;
+
+    for (i = 0; i < lone_samples; i++) {
+        memcpy(image, lone[i].before, IMAGE);
+        if (lone[i].effect == effect)
+            refused |= kind == SAMPLE ? wherryoar_sample(image, IMAGE, lone[i].level).refusal
+                                      : second_sample(image, IMAGE, lone[i].level).refusal;
+    }
+    return refused == 0;
+}
+
+/* Whether both come to the same state with each sample, and there are samples of both effects. */
+static int each_the_same(void)
+{
+    uint8_t other[IMAGE];
+    uint32_t refused = 0;
+    int same = 1;
+    size_t i;
+
+    for (i = 0; i < lone_samples; i++) {
+        memcpy(image, lone[i].before, IMAGE);
+        memcpy(other, lone[i].before, IMAGE);
+        refused |= wherryoar_sample(image, IMAGE, lone[i].level).refusal;
+        refused |= second_sample(other, IMAGE, lone[i].level).refusal;
+        same = same && memcmp(image, other, IMAGE) == 0;
+    }
+    return same && refused == 0 && with_effect[MOVING] > 0 && with_effect[STILL] > 0;
+}
+
 /* ---- Measuring ---- */
 
 /* Nanoseconds an item takes, the best of several rounds in which the four take turns. */
@@ -114,15 +188,21 @@ static int time_all(void)
     return 0;
 }
 
-/* Feeds a short capture so many times, for a counter of instructions around this program; prints its items. */
-static int feed_times(const char *name, unsigned per_clock, unsigned times)
+/* The place of a name among so many; their number where it is none of them. */
+static int place_of(const char *name, const char *const *among, int count)
 {
-    int kind = 0, fine = 1;
+    int i = 0;
 
-    while (kind < KINDS && strcmp(names[kind], name) != 0)
-        kind++;
-    if (kind == KINDS || per_clock < 2)
-        return 2;
+    while (i < count && strcmp(among[i], name) != 0)
+        i++;
+    return i;
+}
+
+/* Feeds a short capture so many times, for a counter of instructions around this program; prints its items. */
+static int feed_times(int kind, unsigned per_clock, unsigned times)
+{
+    int fine = 1;
+
     capture_make(&fed, per_clock, CAPTURE_COUNTED);
     while (times-- > 0)
         fine = feed(kind) && fine;
@@ -130,10 +210,44 @@ static int feed_times(const char *name, unsigned per_clock, unsigned times)
     return fine ? 0 : 1;
 }
 
-/* Without arguments: times. A function's name, samples per clock and a number of times: the capture is fed that often. */
+/* Feeds the samples of that capture that have one effect, each by itself, for such a counter. */
+static int feed_effect(int kind, unsigned per_clock, int effect)
+{
+    capture_make(&fed, per_clock, CAPTURE_COUNTED);
+    return take_samples() && feed_lone(kind, effect) ? 0 : 1;
+}
+
+/* Prints how many samples of that capture move something and how many do not; fails where the two programs differ in one. */
+static int tell_effects(unsigned per_clock)
+{
+    if (per_clock < 2)
+        return 2;
+    capture_make(&fed, per_clock, CAPTURE_COUNTED);
+    if (!take_samples() || !each_the_same())
+        return 1;
+    printf("%lu %lu\n", (unsigned long)with_effect[MOVING], (unsigned long)with_effect[STILL]);
+    return 0;
+}
+
+/* Feeds as often as the number says, or the samples that have the effect named. */
+static int feed_counted(const char *name, unsigned per_clock, const char *how)
+{
+    int kind = place_of(name, names, KINDS), effect = place_of(how, effects, EFFECTS);
+
+    if (kind == KINDS || per_clock < 2)
+        return 2;
+    if (effect == EFFECTS)
+        return feed_times(kind, per_clock, (unsigned)strtoul(how, NULL, 10));
+    return kind == SAMPLE || kind == SECOND_SAMPLE ? feed_effect(kind, per_clock, effect) : 2;
+}
+
+/* Without arguments: times. Samples per clock alone: how many samples have each effect. A function's name, samples per clock
+   and a number of times: the capture is fed that often; with an effect instead: its samples by themselves. */
 int main(int argc, char **argv)
 {
     if (argc == 1)
         return time_all();
-    return argc == 4 ? feed_times(argv[1], (unsigned)strtoul(argv[2], NULL, 10), (unsigned)strtoul(argv[3], NULL, 10)) : 2;
+    if (argc == 2)
+        return tell_effects((unsigned)strtoul(argv[1], NULL, 10));
+    return argc == 4 ? feed_counted(argv[1], (unsigned)strtoul(argv[2], NULL, 10), argv[3]) : 2;
 }

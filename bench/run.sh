@@ -52,6 +52,32 @@ budgets() {
     }'
 }
 
+# Lines 'samples-per-clock moving sample second-sample still sample second-sample' as a table.
+effects_table() { # effects_table WHAT
+    awk -v what="$1" '
+    BEGIN {
+        printf "%s per sample, by what it does\n", what
+        printf "%9s | %7s %16s %13s %5s | %7s %16s %13s %5s\n", "samples",
+            "moving", "wherryoar_sample", "second_sample", "ratio", "still", "wherryoar_sample", "second_sample", "ratio"
+        printf "%9s | %7s %16s %13s %5s | %7s\n", "per clock", "samples", "", "", "", "samples"
+    }
+    { printf "%9d | %7d %16.1f %13.1f %5.2f | %7d %16.1f %13.1f %5.2f\n", $1, $2, $3, $4, $3 / $4, $5, $6, $7, $6 / $7 }
+    END { exit NR == 0 }'
+}
+
+# The budgets of a sample by what it does, from the lines of that table; fails where one is not kept.
+effects_budgets() {
+    awk '
+    $3 / $4 > moving { moving = $3 / $4 }
+    $6 / $7 > still { still = $6 / $7 }
+    END {
+        printf "a sample that moves something at most 2.00 times second_sample: %.2f, %s; ",
+            moving, moving <= 2 ? "kept" : "NOT KEPT"
+        printf "one on the short way at most 1.50 times: %.2f, %s\n", still, still <= 1.5 ? "kept" : "NOT KEPT"
+        exit NR == 0 || moving > 2 || still > 1.5
+    }'
+}
+
 # ---- Instructions ----
 
 # The instructions of a command, by whatever counts them here; what it prints goes to $out/told. Before the command may stand
@@ -85,6 +111,11 @@ find_counter() {
     return 1
 }
 
+# What each of so many costs, by the instructions with them and without.
+cost_of_each() { # cost_of_each WITHOUT WITH NUMBER
+    awk -v a="$1" -v b="$2" -v n="$3" 'BEGIN { printf "%.3f", (b - a) / n }'
+}
+
 # A line 'samples-per-clock items run second-run sample second-sample': the instructions with the capture fed once less those
 # without.
 count_items() { # count_items SAMPLES-PER-CLOCK
@@ -93,7 +124,26 @@ count_items() { # count_items SAMPLES-PER-CLOCK
     line="$1 $items"
     for function in wherryoar_run second_run wherryoar_sample second_sample; do
         once=$(counted "$out/bench" "$function" "$1" 1) || return 1
-        line="$line $(awk -v a="$without" -v b="$once" -v n="$items" 'BEGIN { printf "%.3f", (b - a) / n }')"
+        line="$line $(cost_of_each "$without" "$once" "$items")"
+    done
+    echo "$line"
+}
+
+# A line 'samples-per-clock moving sample second-sample still sample second-sample': how many samples move something, and how
+# many are on the short way; beside each number the instructions with these samples fed less those without.
+count_effects() { # count_effects SAMPLES-PER-CLOCK
+    local function effect without once moving still line=$1
+    if ! $RUN "$out/bench" "$1" >"$out/told" || ! read -r moving still <"$out/told"; then
+        echo "The archive and the second program do not come to the same state with each sample at $1 samples per clock." >&2
+        return 1
+    fi
+    without=$(counted "$out/bench" second_sample "$1" neither) || return 1
+    for effect in moving still; do
+        line="$line ${!effect}"
+        for function in wherryoar_sample second_sample; do
+            once=$(counted "$out/bench" "$function" "$1" "$effect") || return 1
+            line="$line $(cost_of_each "$without" "$once" "${!effect}")"
+        done
     done
     echo "$line"
 }
@@ -116,8 +166,14 @@ tell_instructions() {
     for density in $densities; do
         count_items "$density" || return 1
     done >"$out/counts"
+    for density in $densities; do
+        count_effects "$density" || return 1
+    done >"$out/effect_counts"
     table "instructions (x86-64, counted by $counter)" <"$out/counts" || return 1
     budgets <"$out/counts" || status=1
+    echo
+    effects_table "instructions (x86-64, counted by $counter)" <"$out/effect_counts" || return 1
+    effects_budgets <"$out/effect_counts" || status=1
     echo
     sigrok_table "instructions (x86-64, counted by $counter)" "$out/counts" <"$out/sigrok_counts" || status=1
     return $status

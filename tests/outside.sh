@@ -185,6 +185,7 @@ bench_checked() { # each way of feeding, at some samples per clock, and the wire
     for function in wherryoar_run second_run wherryoar_sample second_sample; do
         "$out/checked_bench" "$function" 20 1 || return 1
     done
+    "$out/checked_bench" 20 && "$out/checked_bench" wherryoar_sample 20 still || return 1
     "$out/checked_wire" counted 4 "$out/bench_wire"
 }
 checked() {

@@ -116,6 +116,12 @@ dense_runs() {
     try spoiled_dense $RUN "$out/dense" 200000 7 1
 }
 
+# Samples that leave every byte, on states in memory that may only be read.
+still_samples() {
+    try build_still build still tests/still.c tests/traffic.c "$out/second.o"
+    try still $RUN "$out/still" 20000
+}
+
 # What the header says of the archive as a whole: nine functions, nothing called, no memory of its own.
 alone() {
     local functions others calls variables
@@ -172,6 +178,7 @@ beside compared compared
 whole beside instructions try bench_instructions bench/run.sh instructions
 through_the_door with_archive
 beside dense_runs dense_runs
+beside still_samples still_samples
 beside as_a_whole as_a_whole
 settle
 

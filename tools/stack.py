@@ -1,4 +1,7 @@
-"""Tells the most stack that functions of an archive use, from their machine code: stack.py OBJDUMP ARCHIVE FUNCTION..
+"""Tells the most stack that functions of an archive use, from their machine code: stack.py OBJDUMP ARCHIVE WANTED..
+
+WANTED is 'FUNCTION', 'FUNCTION without CALLEE' (the ways through it that do not enter CALLEE), and with ' within BYTES' behind
+it a budget, which is judged: one that is not kept ends this with 1.
 
 The depth is followed through each function (push, pop, sub, add), with what a leaf keeps below its stack pointer, and
 along each call; the return address counts, arguments that the caller puts on the stack do not. A call or a change of the
@@ -12,6 +15,7 @@ INSTRUCTION = re.compile(r"^ *([0-9a-f]+):\t(\S+) *(.*)$")
 RELOCATION = re.compile(r"^\s+[0-9a-f]+: R_X86_64_(?:PLT32|PC32)\s+(\S+)-0x4$")
 TARGET = re.compile(r"^([0-9a-f]+) <([^+>]+)")
 BELOW = re.compile(r"(-0x[0-9a-f]+)\(%rsp[,)]")
+WANTED = re.compile(r"^(.+?)(?: without (.+?))?(?: within ([0-9]+))?$")
 RETURN_ADDRESS = 8
 
 
@@ -90,8 +94,8 @@ def depths(code):
     return before
 
 
-def most(functions, name, path=()):
-    """The most bytes below the return address of a function, and the calls that lead there."""
+def most(functions, name, left_out=None, path=()):
+    """The most bytes below the return address of a function, and the calls that lead there; one callee may be left out."""
     if name in path:
         raise Unknown(f"recursion through {name}")
     if name not in functions:
@@ -102,8 +106,8 @@ def most(functions, name, path=()):
         below = BELOW.search(operands)
         here = moved(mnemonic, operands, depth) - (int(below.group(1), 16) if below else 0)
         callee = after(code, index)[1]
-        if callee:
-            inner, calls = most(functions, callee, path + (name,))
+        if callee and callee != left_out:
+            inner, calls = most(functions, callee, left_out, path + (name,))
             inner += depth + (RETURN_ADDRESS if mnemonic.startswith("call") else 0)
             if inner > deepest:
                 deepest, way = inner, calls
@@ -112,17 +116,51 @@ def most(functions, name, path=()):
     return deepest, (name,) + way
 
 
+def called(functions, name, left_out=None):
+    """The functions that one calls, itself or through others, but not through the one left out."""
+    found, work = set(), [name]
+    while work:
+        code = functions.get(work.pop(), [])
+        new = {after(code, index)[1] for index in range(len(code))} - found - {None, left_out}
+        found |= new
+        work.extend(new)
+    return found
+
+
+def stand_apart(functions, name, left_out):
+    """A callee that is left out has to be there, and nothing that it calls may be called past it: else it is a part of the
+    function's own frame, wholly or at one of its calls."""
+    if left_out not in functions:
+        raise Unknown(f"{name} without {left_out}, which is not in the archive")
+    if left_out not in called(functions, name):
+        raise Unknown(f"{name} without {left_out}, which it never calls")
+    past = called(functions, name, left_out) & called(functions, left_out)
+    if past:
+        raise Unknown(f"{name} without {left_out}, past which it calls {', '.join(sorted(past))}")
+
+
+def tell(functions, wanted):
+    """Prints a line for what is wanted; answers whether its budget is kept."""
+    name, left_out, budget = WANTED.match(wanted).groups()
+    deepest, way = most(functions, name, left_out)
+    if left_out:
+        stand_apart(functions, name, left_out)
+    bytes_used = (deepest + RETURN_ADDRESS + 7) // 8 * 8
+    kept = budget is None or bytes_used <= int(budget)
+    without = f" without {left_out}" if left_out else ""
+    verdict = f"; at most {budget} allowed, {'kept' if kept else 'NOT KEPT'}" if budget else ""
+    print(f"{name}{without}: at most {bytes_used} bytes of stack, through {' > '.join(way)}{verdict}")
+    return kept
+
+
 def main():
     try:
         functions = read(sys.argv[1], sys.argv[2])
-        for name in sys.argv[3:]:
-            deepest, way = most(functions, name)
-            bytes_used = (deepest + RETURN_ADDRESS + 7) // 8 * 8
-            print(f"{name}: at most {bytes_used} bytes of stack, through {' > '.join(way)}")
+        kept = [tell(functions, wanted) for wanted in sys.argv[3:]]
     except Unknown as reason:
         print(f"not known: {reason}")
         return 1
-    return 0
+    return 0 if all(kept) else 1
 
 
 sys.exit(main())

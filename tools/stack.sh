@@ -1,10 +1,14 @@
 #!/usr/bin/env bash
-# Prints the most bytes of stack that wherryoar_sample and wherryoar_run (or the functions named) use, by the archive's code.
+# Prints the most bytes of stack that wherryoar_sample, its short way and wherryoar_run use, by the archive's code, and whether
+# the budgets are kept; one that is not ends this with 1. Or that of the functions named, without a budget.
+#
+#     stack.sh [FUNCTION | 'FUNCTION without CALLEE']..
 set -u
 cd "$(dirname "$0")/.." || exit 2
 . tools/machine.sh
 need python3 python3 || exit 2
 archive=target/staticlib/libdoor.a
 build_archive || exit 1
-[ $# -gt 0 ] || set -- wherryoar_sample wherryoar_run
+short_way="wherryoar_sample without module_calls::move_on" # the sample that moves nothing
+[ $# -gt 0 ] || set -- "wherryoar_sample within 512" "$short_way within 300" "wherryoar_run within 704"
 python3 tools/stack.py "$OBJDUMP" "$archive" "$@"

@@ -5,6 +5,11 @@ use Rattle.module_image.specs.Laws.{part-byte-by-byte}
 use Rattle.module_image.proofs.is_part.Statement.{statement}
 use Rattle.module_image.proofs.is_part.Tie as tie
 
+byte-by-byte : tie.Need-returns
+byte-by-byte c =
+    let a = c .before .before .before .before .before .before .before .before .before .before .before .before .before .before .before .before .args in
+    part-byte-by-byte (now (a .b)) (c .before .before .before .before .before .before .before .before .before .before .before .before .before .before .before .before .pre) (c .before .before .before .before .before .before .before .before .before .are-held .ensures) (c .before .before .is-stand .ensures)
+
 pub is-part-spec : {M : Type 1} → statement M
 is-part-spec =
     tie.close
@@ -13,4 +18,4 @@ is-part-spec =
     (λ c. search needs) (λ c κs. search needs) (λ c. search needs) (λ c. search needs) (λ c. search needs)
     (λ c. search needs) (λ c. search needs) (λ c. search needs) (λ c κs. search needs) (λ c. search needs)
     (λ c. search needs)
-    (λ c. let a = c .before .before .before .before .before .before .before .before .before .before .before .before .before .before .before .before .args in part-byte-by-byte (now (a .b)) (c .before .before .before .before .before .before .before .before .before .before .before .before .before .before .before .before .pre) (c .before .before .before .before .before .before .before .before .before .are-held .ensures) (c .before .before .is-stand .ensures)))
+    byte-by-byte)
