@@ -14,6 +14,8 @@
    - An image is good for this version of the library. One that an older version made means the same or is refused with 6,
      and is never misread. Of the images of 0.3.0 those of an acknowledge slot that does not pull are refused: they do not
      say whether the byte was. The layout is in docs/LAYOUT.md.
+   - A call takes at most 704 bytes of stack, wherryoar_sample at most 512, and at most 300 where the sample leaves the state
+     as it is: the level is on the wire what is remembered of it.
    - Compiled for x86-64.                                                                                             */
 #ifndef WHERRYOAR_H
 #define WHERRYOAR_H
