@@ -4,6 +4,7 @@ use Prim.Native.Nat.{_^_}
 use mathlib.Core.Bool.{Bool, cond, _&&_, _||_, not}
 use lib.Dec.{T, eqb, leb, ltb}
 use Rattle.wire.specs.declared.Bits.{Bits}
+use Rattle.wire.specs.declared.Line.{Line}
 use Rattle.wire.specs.declared.Remembered.{Remembered}
 use Rattle.wire.specs.Wire.{sclHigh}
 use Rattle.mssp.specs.declared.Config.{Config}
@@ -32,12 +33,18 @@ abbrev pub addressBegins : Phase → Bool
 addressBegins ph = isAddress ph && noBits (bitsOf ph)
 
 -- S and P are not both 1.
+abbrev pub notBoth : Bool → Bool → Bool
+notBoth s p = not (s && p)
+
 abbrev pub oneCondition : Live → Bool
-oneCondition l = not (l .s && l .p)
+oneCondition l = notBoth (l .s) (l .p)
 
 -- SSPEN 1 goes with SSPM 0110 or 1110.
+abbrev pub enabledIn : Bool → Bool → Bool
+enabledIn sspen mode = not sspen || mode
+
 abbrev pub modeFits : Config → Bool
-modeFits c = not (c .sspen) || modelled (c .sspm3) (c .sspm2) (c .sspm1) (c .sspm0)
+modeFits c = enabledIn (c .sspen) (modelled (c .sspm3) (c .sspm2) (c .sspm1) (c .sspm0))
 
 -- SSPEN 0 goes with the quiet phase and no mark.
 abbrev pub offFits : Bool → Phase → Bool → Bool
@@ -55,14 +62,19 @@ eightFit ph seen = not (eightBits ph) || sclHigh seen
 abbrev pub holdFits : Phase → Bool → Bool
 holdFits ph ckp = not (sclPulled ph && ckp)
 
--- All of it, as one test.
+-- All of it, as one test, by what it looks at: S and P, SSPEN and whether the mode is modelled, CKP, the phase and the line.
+abbrev pub validBy : Bool → Bool → Bool → Bool → Bool → Phase → Line → Bool
+validBy s p sspen mode ckp ph line =
+    partsFit ph && notBoth s p && enabledIn sspen mode
+    && offFits sspen ph (line .mark)
+    && markFits (line .mark) s (line .remembered) ph
+    && eightFit ph (line .remembered)
+    && holdFits ph ckp
+
 abbrev pub valid : Module → Bool
 valid m =
-    partsFit (m .phase) && oneCondition (m .live) && modeFits (m .config)
-    && offFits (m .config .sspen) (m .phase) (m .line .mark)
-    && markFits (m .line .mark) (m .live .s) (m .line .remembered) (m .phase)
-    && eightFit (m .phase) (m .line .remembered)
-    && holdFits (m .phase) (m .live .ckp)
+    let c : Config = m .config in
+    validBy (m .live .s) (m .live .p) (c .sspen) (modelled (c .sspm3) (c .sspm2) (c .sspm1) (c .sspm0)) (m .live .ckp) (m .phase) (m .line)
 
 -- The same with a name for each clause, which is how proofs use it.
 pub record Valid (m : Module) : Type 0 where

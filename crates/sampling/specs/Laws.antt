@@ -29,9 +29,9 @@ module _ (m : Module) (scl sda mark : Bool) (stands : scl && mark ≡ mark) wher
   abbrev here : Module
   here = moduleOf (m .config) (m .live) (m .phase) (lineAt scl sda mark)
 
-  seen-again : (on : Bool) → seenIf on here scl sda ≡ here
-  seen-again true = rw (level-again mark scl sda stands .0) (ap (λ (line : Line). moduleOf (m .config) (m .live) (m .phase) line) (level-again mark scl sda stands .1))
-  seen-again false = ap (λ (line : Line). moduleOf (m .config) (m .live) (m .phase) line) (level-again mark scl sda stands .1)
+  seen-alike : (on : Bool) → seenIf on here scl sda ≡ here
+  seen-alike true = rw (level-again mark scl sda stands .0) (ap (λ (line : Line). moduleOf (m .config) (m .live) (m .phase) line) (level-again mark scl sda stands .1))
+  seen-alike false = ap (λ (line : Line). moduleOf (m .config) (m .live) (m .phase) line) (level-again mark scl sda stands .1)
 
   sampled-here :
       (level : ℕ) → isStill (m .phase) scl sda level ≡ true → sampled here (sclOf level) (sdaOf level) ≡ here
@@ -39,7 +39,7 @@ module _ (m : Module) (scl sda mark : Bool) (stands : scl && mark ≡ mark) wher
       let scls : Bool = Bool·beq (onWire (sclPulled (m .phase)) (sclOf level)) scl in
       let sdas : Bool = Bool·beq (onWire (sdaPulled (m .phase)) (sdaOf level)) sda in
       ap₂ (λ (a b : Bool). seenIf (m .config .sspen) here a b) (equal _ scl (and-first scls sdas same)) (equal _ sda (and-second scls sdas same))
-      ∙ seen-again (m .config .sspen)
+      ∙ seen-alike (m .config .sspen)
 
 abbrev seenBefore : Module → Remembered → Module
 seenBefore m rem = moduleOf (m .config) (m .live) (m .phase) (record { remembered = rem; mark = m .line .mark })

@@ -2,8 +2,7 @@
 ghost use mathlib.Core.Path.{_≡_};
 ghost use Rattle.wire.specs.Wire.{sclHigh};
 ghost use Rattle.mssp.specs.Phases.{isQuiet};
-ghost use Rattle.mssp.specs.Valid.{bitsFit, partsFit, addressBegins};
-ghost use Rattle.validity.specs.Clauses.{validBy};
+ghost use Rattle.mssp.specs.Valid.{bitsFit, partsFit, addressBegins, validBy};
 use mssp::Phase;
 use wire::Bits;
 use wire::Line;
