@@ -103,20 +103,20 @@ module _ (b : List ℕ) (t : isState b ≡ true) where
         ap₂ outcome f (sym (state-image b t) ∙ with-next m (sym stays))
 
     -- A stretch of its own: phase and line are written.
-    pub passed-over :
+    pub stretch-way :
         {s : Stand} {ahead : Stretch} {line : Line} {r : Answer} {bytes : List ℕ} → level ≤ 3 → s ≡ standOf (moduleFrom b)
         → ahead ≡ standStretch s (level ∷ []) → 0 < ahead .length → line ≡ lineOf (ahead .wire)
         → bytes ≡ withStand (ahead .phase) line b → r ≡ done 0 → Leaves r bytes
     unfolding parseOf
-    passed-over {ahead = r} h e is l line g f =
+    stretch-way {ahead = r} h e is l line g f =
         let m : Module = moduleFrom b in
         let moved = level-passed m level h (is ∙ ap (λ (x : Stand). standStretch x (level ∷ [])) e) l in
         ap₂ outcome f (g ∙ stand-over b t (r .phase) _ ∙ ap (λ (x : Line). encodeOf (stateOf (moduleOf (m .config) (m .live) (r .phase) x) (parseOf b .handler))) line ∙ with-next (movedOn m r) moved)
 
     -- The long way: the module is built, fed and written.
-    pub fed-on :
+    pub long-way :
         {m : Module} {fed : Fed} {r : Answer} {bytes : List ℕ} → level ≤ 3 → m ≡ moduleFrom b → fed ≡ fedOf m (level ∷ [])
         → bytes ≡ withModule (fed .mssp) b → r ≡ done 0 → Leaves r bytes
     unfolding parseOf
-    fed-on {fed = r} h e is g f =
+    long-way {fed = r} h e is g f =
         ap₂ outcome f (g ∙ module-over b t (r .mssp) ∙ with-next (r .mssp) (level-fed (moduleFrom b) level h (is ∙ ap (λ (x : Module). fedOf x (level ∷ [])) e)))

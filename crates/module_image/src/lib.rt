@@ -194,7 +194,7 @@ pub fn save(m: Module, b: &mut [u8])
     bytes::copy(&part, b);
 }
 
-// Phase and line alone are: the bytes of the registers stay.
+// Phase and line alone are written; the bytes of the registers stay.
 pub fn save_stand(phase: Phase, line: Line, b: &mut [u8])
     requires { ⌜ moduleLength ≤ length (now b) ⌝ }
     ensures { λ _. ⌜ now (b .exit) ≡ withStand phase line (now (b .entry)) ⌝ }

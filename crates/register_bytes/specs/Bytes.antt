@@ -14,8 +14,11 @@ byteOf b7 b6 b5 b4 b3 b2 b1 b0 =
     + boolByte b1 * 2 + boolByte b0
 
 -- SMP, CKE, D/A, P, S, R/W, UA, BF. UA stays 0 in this mode.
+abbrev pub statBits : Bool → Bool → Bool → Bool → Bool → Bool → Bool → ℕ
+statBits smp cke da p s rw bf = byteOf smp cke da p s rw false bf
+
 abbrev pub statOf : Config → Live → ℕ
-statOf c l = byteOf (c .smp) (c .cke) (l .da) (l .p) (l .s) (l .rw) false (l .bf)
+statOf c l = statBits (c .smp) (c .cke) (l .da) (l .p) (l .s) (l .rw) (l .bf)
 
 -- WCOL, SSPOV, SSPEN, CKP, SSPM.
 abbrev pub con1Of : Config → Live → ℕ
@@ -26,25 +29,31 @@ abbrev pub sspmOf : Config → ℕ
 sspmOf c = byteOf false false false false (c .sspm3) (c .sspm2) (c .sspm1) (c .sspm0)
 
 -- GCEN, ACKSTAT, ACKDT, four bits of the master, SEN.
+abbrev pub con2Bits : Bool → Bool → Bool → Bool → ℕ
+con2Bits gcen ackstat ackdt sen = byteOf gcen ackstat ackdt false false false false sen
+
 abbrev pub con2Of : Config → Live → ℕ
-con2Of c l = byteOf (c .gcen) (l .ackstat) (c .ackdt) false false false false (c .sen)
+con2Of c l = con2Bits (c .gcen) (l .ackstat) (c .ackdt) (c .sen)
 
 -- ACKTIM, PCIE, SCIE, BOEN, SDAHT, SBCDE, AHEN, DHEN. BOEN is not modelled.
+abbrev pub con3Bits : Bool → Bool → Bool → Bool → Bool → Bool → Bool → ℕ
+con3Bits acktim pcie scie sdaht sbcde ahen dhen = byteOf acktim pcie scie false sdaht sbcde ahen dhen
+
 abbrev pub con3Of : Config → Live → ℕ
-con3Of c l = byteOf (l .acktim) (c .pcie) (c .scie) false (c .sdaht) (c .sbcde) (c .ahen) (c .dhen)
+con3Of c l = con3Bits (l .acktim) (c .pcie) (c .scie) (c .sdaht) (c .sbcde) (c .ahen) (c .dhen)
 
 -- ---- what of a byte a register holds: the bits that it has
 abbrev pub statHeld : ℕ → ℕ
-statHeld v = byteOf (bit 7 v) (bit 6 v) (bit 5 v) (bit 4 v) (bit 3 v) (bit 2 v) false (bit 0 v)
+statHeld v = statBits (bit 7 v) (bit 6 v) (bit 5 v) (bit 4 v) (bit 3 v) (bit 2 v) (bit 0 v)
 
 abbrev pub con1Held : ℕ → ℕ
 con1Held v = byteOf (bit 7 v) (bit 6 v) (bit 5 v) (bit 4 v) (bit 3 v) (bit 2 v) (bit 1 v) (bit 0 v)
 
 abbrev pub con2Held : ℕ → ℕ
-con2Held v = byteOf (bit 7 v) (bit 6 v) (bit 5 v) false false false false (bit 0 v)
+con2Held v = con2Bits (bit 7 v) (bit 6 v) (bit 5 v) (bit 0 v)
 
 abbrev pub con3Held : ℕ → ℕ
-con3Held v = byteOf (bit 7 v) (bit 6 v) (bit 5 v) false (bit 3 v) (bit 2 v) (bit 1 v) (bit 0 v)
+con3Held v = con3Bits (bit 7 v) (bit 6 v) (bit 5 v) (bit 3 v) (bit 2 v) (bit 1 v) (bit 0 v)
 
 -- Four bytes that the registers can hold: no other bit is 1.
 abbrev pub areHeld : ℕ → ℕ → ℕ → ℕ → Bool

@@ -1,6 +1,6 @@
 // STAT, CON1, CON2 and CON3 as they read: which bit stands where.
 ghost use mathlib.Core.Path.{_≡_};
-ghost use Rattle.register_bytes.specs.Bytes.{byteOf, statOf, con1Of, sspmOf, con2Of, con3Of, statHeld, con1Held, con2Held, con3Held, areHeld};
+ghost use Rattle.register_bytes.specs.Bytes.{byteOf, statBits, statOf, con1Of, sspmOf, con2Bits, con2Of, con3Bits, con3Of, statHeld, con1Held, con2Held, con3Held, areHeld};
 use mssp::Config;
 use mssp::Live;
 
@@ -18,10 +18,17 @@ fn pack(b7: bool, b6: bool, b5: bool, b4: bool, b3: bool, b2: bool, b1: bool, b0
         + (b0 as u8)
 }
 
+// UA is always 0.
+fn stat_bits(smp: bool, cke: bool, da: bool, p: bool, s: bool, rw: bool, bf: bool) -> u8
+    ensures { λ r. ⌜ r ≡ statBits smp cke da p s rw bf ⌝ }
+{
+    pack(smp, cke, da, p, s, rw, false, bf)
+}
+
 pub fn stat(c: Config, l: Live) -> u8
     ensures { λ r. ⌜ r ≡ statOf c l ⌝ }
 {
-    pack(c.smp, c.cke, l.da, l.p, l.s, l.rw, false, l.bf)
+    stat_bits(c.smp, c.cke, l.da, l.p, l.s, l.rw, l.bf)
 }
 
 pub fn con1(c: Config, l: Live) -> u8
@@ -55,48 +62,51 @@ pub fn sspm(c: Config) -> u8
     )
 }
 
+// The four bits of the master are always 0.
+fn con2_bits(gcen: bool, ackstat: bool, ackdt: bool, sen: bool) -> u8
+    ensures { λ r. ⌜ r ≡ con2Bits gcen ackstat ackdt sen ⌝ }
+{
+    pack(gcen, ackstat, ackdt, false, false, false, false, sen)
+}
+
 pub fn con2(c: Config, l: Live) -> u8
     ensures { λ r. ⌜ r ≡ con2Of c l ⌝ }
 {
-    pack(
-        c.gcen,
-        l.ackstat,
-        c.ackdt,
-        false,
-        false,
-        false,
-        false,
-        c.sen,
-    )
+    con2_bits(c.gcen, l.ackstat, c.ackdt, c.sen)
+}
+
+// BOEN is always 0.
+fn con3_bits(
+    acktim: bool,
+    pcie: bool,
+    scie: bool,
+    sdaht: bool,
+    sbcde: bool,
+    ahen: bool,
+    dhen: bool,
+) -> u8
+    ensures { λ r. ⌜ r ≡ con3Bits acktim pcie scie sdaht sbcde ahen dhen ⌝ }
+{
+    pack(acktim, pcie, scie, false, sdaht, sbcde, ahen, dhen)
 }
 
 pub fn con3(c: Config, l: Live) -> u8
     ensures { λ r. ⌜ r ≡ con3Of c l ⌝ }
 {
-    pack(
-        l.acktim,
-        c.pcie,
-        c.scie,
-        false,
-        c.sdaht,
-        c.sbcde,
-        c.ahen,
-        c.dhen,
-    )
+    con3_bits(l.acktim, c.pcie, c.scie, c.sdaht, c.sbcde, c.ahen, c.dhen)
 }
 
-// What of a byte STAT holds: all but UA.
+// What of a byte STAT holds.
 fn stat_held(v: u8) -> u8
     ensures { λ r. ⌜ r ≡ statHeld v ⌝ }
 {
-    pack(
+    stat_bits(
         v / 128 % 2 == 1,
         v / 64 % 2 == 1,
         v / 32 % 2 == 1,
         v / 16 % 2 == 1,
         v / 8 % 2 == 1,
         v / 4 % 2 == 1,
-        false,
         v / 1 % 2 == 1,
     )
 }
@@ -117,31 +127,26 @@ fn con1_held(v: u8) -> u8
     )
 }
 
-// CON2 holds all but the four bits of the master.
+// What of it CON2 holds.
 fn con2_held(v: u8) -> u8
     ensures { λ r. ⌜ r ≡ con2Held v ⌝ }
 {
-    pack(
+    con2_bits(
         v / 128 % 2 == 1,
         v / 64 % 2 == 1,
         v / 32 % 2 == 1,
-        false,
-        false,
-        false,
-        false,
         v / 1 % 2 == 1,
     )
 }
 
-// CON3 holds all but BOEN.
+// What of it CON3 holds.
 fn con3_held(v: u8) -> u8
     ensures { λ r. ⌜ r ≡ con3Held v ⌝ }
 {
-    pack(
+    con3_bits(
         v / 128 % 2 == 1,
         v / 64 % 2 == 1,
         v / 32 % 2 == 1,
-        false,
         v / 8 % 2 == 1,
         v / 4 % 2 == 1,
         v / 2 % 2 == 1,
