@@ -5,7 +5,7 @@
    image, a window past the end of memory.
 
    - Every call ends, and touches only what it is lent.
-   - A refused call answers the number of the first refusal that applies, in the order 6, 1, 2, 3, 8, 5, 4, 7, and leaves
+   - A refused call answers the number of the first refusal that applies, in the order 6, 1, 2, 3, 8, 9, 5, 4, 7, and leaves
      state and buffer exactly as they were.
    - What no proof can cover is yours to keep: state, buffer, trace and record must not overlap; a length must not be longer
      than the memory behind its pointer; a pointer may be null only where its length is 0.
@@ -34,12 +34,13 @@ extern "C" {
 #define WHERRYOAR_DONE 0            /* not refused */
 #define WHERRYOAR_NO_REGISTER 1     /* a register number above 7 */
 #define WHERRYOAR_RESERVED_BIT 2    /* a write sets CON2 bits 4..1 or BOEN */
-#define WHERRYOAR_NO_MODE 3         /* a write to CON1 with SSPEN 1 and SSPM neither 0110 nor 1110 */
+#define WHERRYOAR_NO_MODE 3         /* a write to CON1 with SSPEN 1 and SSPM none of 0110, 1110, 0111, 1111 */
 #define WHERRYOAR_NO_ITEM 4         /* a level above 3, an item above 4 */
 #define WHERRYOAR_NO_WINDOW 5       /* window not inside its buffer or not of the setup's length; n outside 1 to 256 */
 #define WHERRYOAR_NO_STATE 6        /* the bytes are no state's image; at setup, not 48 bytes */
 #define WHERRYOAR_PAST_RECORD 7     /* the finder's item number is not below the record's length */
 #define WHERRYOAR_MODE_CHANGE 8     /* a write to CON1 with another SSPM, while SSPEN is 1 and stays so */
+#define WHERRYOAR_MASKED_TEN_BITS 9 /* a write after which a ten-bit SSPM would stand with SSPEN 1 and a MSK other than FF */
 
 /* Register numbers. */
 #define WHERRYOAR_BUF 0
@@ -60,6 +61,18 @@ extern "C" {
 #define WHERRYOAR_HELD_FOR_SENDING 5
 #define WHERRYOAR_SENDING 6
 #define WHERRYOAR_MASTER_ACKNOWLEDGE 7
+#define WHERRYOAR_HELD_FOR_ADD 8    /* ten bits: the clock is held until ADD is written; UA is 1 exactly here */
+
+/* Which byte an address, a hold before acknowledge or a slot belongs to. */
+#define WHERRYOAR_OTHER_BYTE 0      /* a seven-bit address, a first byte whose bits still come, or a data byte */
+#define WHERRYOAR_HIGH_BYTE 1       /* ten bits: a high byte with R/W 0 */
+#define WHERRYOAR_LOW_BYTE 2        /* ten bits: a low byte */
+#define WHERRYOAR_HIGH_TO_SEND 3    /* ten bits: a high byte with R/W 1 after the full match */
+
+/* What follows when ADD is written in the hold for it. */
+#define WHERRYOAR_NEXT_QUIET 0      /* the low byte was not acknowledged */
+#define WHERRYOAR_NEXT_LOW_BYTE 1
+#define WHERRYOAR_NEXT_DATA 2
 
 /* Which address a first byte hits. */
 #define WHERRYOAR_NO_HIT 0          /* none: the module takes no part in the message */
@@ -89,7 +102,7 @@ typedef struct {
     uint32_t refusal;
     uint8_t buf, stat, con1, con2, con3, add, msk, flag;   /* the eight registers, read without effect */
     uint8_t scl_pulled, sda_pulled;                        /* 1: the module pulls the line low */
-    uint8_t phase;                                         /* 0 to 7, as above */
+    uint8_t phase;                                         /* 0 to 8, as above */
     uint8_t bits;      /* address, data: bits so far, 0 to 8; sending: the place, 0 to 7; else 0 */
     uint8_t byte;      /* address, data: those bits as a number; sending: the byte; else 0 */
     uint8_t refused;   /* held before acknowledge, slot: 1 where BF or SSPOV refused the byte, which sets SSPIF when the slot
@@ -99,6 +112,9 @@ typedef struct {
     uint8_t due;       /* 1: the next data byte is the pointer */
     uint16_t n;        /* the window's length, 1 to 256 */
     uint16_t pointer;  /* the handler's pointer, below n */
+    uint8_t which;     /* address, held before acknowledge, slot: which byte, 0 to 3 as above; else 0 */
+    uint8_t next;      /* held for ADD: what follows, 0 to 2 as above; else 0 */
+    uint8_t full;      /* 1: the full match stands, both bytes of the ten-bit address were acknowledged */
 } wherryoar_view;
 
 /* Makes a state: a module set up afresh with ADD and a handler over n bytes (CON1 36, CON2 01, CON3 00, MSK FF, pointer 0).

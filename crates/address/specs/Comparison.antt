@@ -1,8 +1,9 @@
--- The address comparison (01, "From levels to bytes", Address; 02, 1): which address a first byte after a Start hits.
+-- The address comparison (01, "From levels to bytes", Address; 02, 1 and 9): which address a first byte after a Start hits.
 use Prim.Native.Nat.{ℕ, _/_, _%_, _^_}
-use mathlib.Core.Bool.{Bool, true, false, _&&_, _||_}
+use mathlib.Core.Bool.{Bool, true, false, cond, _&&_, _||_, not}
 use lib.Dec.{eqb}
 use Rattle.mssp.specs.declared.Config.{Config}
+use Rattle.mssp.specs.Module.{isTenBit}
 use Rattle.address.specs.declared.Hit.{Hit}
 use Rattle.address.specs.declared.Hit.the-variants.{None, Own, GeneralCall}
 
@@ -28,8 +29,12 @@ hitIf true general = Own
 hitIf false true = GeneralCall
 hitIf false false = None
 
+-- In ten bits the high byte is compared with ADD's bits 7 to 1 alone: MSK has no part in it, and neither has GCEN (02, 9).
+abbrev pub maskOf : Config → ℕ
+maskOf c = cond (isTenBit c) 255 (c .msk)
+
 abbrev pub hitOf : Config → ℕ → Hit
-hitOf c byte = hitIf (fitting (c .add) (c .msk) byte) (c .gcen && eqb byte 0)
+hitOf c byte = hitIf (fitting (c .add) (maskOf c) byte) (not (isTenBit c) && c .gcen && eqb byte 0)
 
 -- The module takes an own address and the general call alike.
 abbrev pub isTaken : Hit → Bool

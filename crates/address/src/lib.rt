@@ -34,14 +34,15 @@ fn fits_add(add: u8, msk: u8, byte: u8) -> bool
         & ((msk / 128 % 2 == 0) | (byte / 128 % 2 == add / 128 % 2))
 }
 
-// Own where the byte fits, 00 too; else 00 is the general call where GCEN allows it.
+// Own where the byte fits, 00 too; else 00 is the general call where GCEN allows it. In ten bits neither MSK nor GCEN is asked.
 pub fn compare(c: Config, byte: u8) -> Hit
     ensures { λ r. ⌜ r ≡ hitOf c byte ⌝ }
 {
-    if fits_add(c.add, c.msk, byte) {
+    let ten = mssp::has_ten_bits(c.sspm2, c.sspm1, c.sspm0);
+    if fits_add(c.add, mssp::pick_byte(ten, 255, c.msk), byte) {
         return Hit::Own;
     }
-    if c.gcen & (byte == 0) {
+    if !ten & c.gcen & (byte == 0) {
         Hit::GeneralCall
     } else {
         Hit::None

@@ -1,7 +1,8 @@
-// What reading BUF, writing BUF, setting CKP and disabling do to the module.
+// What reading BUF, writing BUF, setting CKP, writing ADD and disabling do to the module.
 ghost use mathlib.Core.Path.{_≡_};
-ghost use Rattle.effects.specs.Effects.{emptied, loaded, released, releasedPhase, disabled};
+ghost use Rattle.effects.specs.Effects.{emptied, loaded, released, releasedPhase, nextPhase, updatedPhase, updated, disabled};
 use mssp::Module;
+use mssp::Next;
 use mssp::Phase;
 
 // BUF is read.
@@ -37,17 +38,18 @@ fn release_phase(phase: Phase, ackdt: bool, buf: u8) -> Phase
 {
     match phase {
         Phase::Quiet => phase,
-        Phase::Address(_) => phase,
+        Phase::Address(_, _) => phase,
         Phase::Data(bits, _) => Phase::Data(bits, false),
-        Phase::HeldBefore(refused) => Phase::Slot(mssp::slot_after(refused, ackdt)),
-        Phase::Slot(_) => phase,
+        Phase::HeldBefore(refused, which) => Phase::Slot(mssp::slot_after(refused, ackdt), which),
+        Phase::Slot(_, _) => phase,
         Phase::HeldForSending => Phase::Sending(buf, 0),
         Phase::Sending(_, _) => phase,
         Phase::MasterAcknowledge => phase,
+        Phase::HeldForAdd(_) => phase,
     }
 }
 
-// CKP is set: a hold ends.
+// CKP is set: a hold ends, but not the one for ADD.
 pub fn release(m: Module) -> Module
     ensures { λ r. ⌜ r ≡ released m ⌝ }
 {
@@ -55,6 +57,46 @@ pub fn release(m: Module) -> Module
     let next = release_phase(phase, m.config.ackdt, m.live.buf);
     let mut n = m;
     n.live.ckp = true;
+    Module { phase: next, ..n }
+}
+
+// What was to follow the hold for ADD.
+fn next_phase(next: Next) -> Phase
+    ensures { λ r. ⌜ r ≡ nextPhase next ⌝ }
+{
+    let bits = wire::no_bits();
+    match next {
+        Next::NextQuiet => Phase::Quiet,
+        Next::NextLow => Phase::Address(bits, true),
+        Next::NextData => Phase::Data(bits, false),
+    }
+}
+
+// Where a phase goes when ADD is written.
+fn update_phase(phase: Phase) -> Phase
+    ensures { λ r. ⌜ r ≡ updatedPhase phase ⌝ }
+{
+    match phase {
+        Phase::Quiet => phase,
+        Phase::Address(_, _) => phase,
+        Phase::Data(_, _) => phase,
+        Phase::HeldBefore(_, _) => phase,
+        Phase::Slot(_, _) => phase,
+        Phase::HeldForSending => phase,
+        Phase::Sending(_, _) => phase,
+        Phase::MasterAcknowledge => phase,
+        Phase::HeldForAdd(next) => next_phase(next),
+    }
+}
+
+// ADD is written: the hold for it ends.
+pub fn update(m: Module, add: u8) -> Module
+    ensures { λ r. ⌜ r ≡ updated add m ⌝ }
+{
+    let phase = m.phase;
+    let next = update_phase(phase);
+    let mut n = m;
+    n.config.add = add;
     Module { phase: next, ..n }
 }
 
@@ -69,6 +111,7 @@ pub fn disable(m: Module) -> Module
     live.rw = false;
     live.bf = false;
     live.acktim = false;
+    live.full = false;
     let mut line = m.line;
     line.mark = false;
     Module {

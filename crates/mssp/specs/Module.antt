@@ -12,53 +12,58 @@ use Rattle.mssp.specs.declared.Module.{Module}
 use Rattle.mssp.specs.declared.Stand.{Stand}
 
 -- ---- what edges change, bit by bit: the others stay
-abbrev pub liveOf : Bool → Bool → Bool → Bool → Bool → Bool → Bool → Bool → Bool → Bool → ℕ → Live
-liveOf s p da rw bf sspov ckp ackstat acktim sspif buf =
-    record { s = s; p = p; da = da; rw = rw; bf = bf; sspov = sspov; ckp = ckp; ackstat = ackstat; acktim = acktim; sspif = sspif; buf = buf }
+abbrev pub liveOf : Bool → Bool → Bool → Bool → Bool → Bool → Bool → Bool → Bool → Bool → Bool → ℕ → Live
+liveOf s p da rw bf sspov ckp ackstat acktim sspif full buf =
+    record { s = s; p = p; da = da; rw = rw; bf = bf; sspov = sspov; ckp = ckp; ackstat = ackstat; acktim = acktim; sspif = sspif; full = full; buf = buf }
 
 abbrev pub setS : Bool → Live → Live
 setS v l =
-    liveOf v (l .p) (l .da) (l .rw) (l .bf) (l .sspov) (l .ckp) (l .ackstat) (l .acktim) (l .sspif) (l .buf)
+    liveOf v (l .p) (l .da) (l .rw) (l .bf) (l .sspov) (l .ckp) (l .ackstat) (l .acktim) (l .sspif) (l .full) (l .buf)
 
 abbrev pub setP : Bool → Live → Live
 setP v l =
-    liveOf (l .s) v (l .da) (l .rw) (l .bf) (l .sspov) (l .ckp) (l .ackstat) (l .acktim) (l .sspif) (l .buf)
+    liveOf (l .s) v (l .da) (l .rw) (l .bf) (l .sspov) (l .ckp) (l .ackstat) (l .acktim) (l .sspif) (l .full) (l .buf)
 
 abbrev pub setDA : Bool → Live → Live
 setDA v l =
-    liveOf (l .s) (l .p) v (l .rw) (l .bf) (l .sspov) (l .ckp) (l .ackstat) (l .acktim) (l .sspif) (l .buf)
+    liveOf (l .s) (l .p) v (l .rw) (l .bf) (l .sspov) (l .ckp) (l .ackstat) (l .acktim) (l .sspif) (l .full) (l .buf)
 
 abbrev pub setRW : Bool → Live → Live
 setRW v l =
-    liveOf (l .s) (l .p) (l .da) v (l .bf) (l .sspov) (l .ckp) (l .ackstat) (l .acktim) (l .sspif) (l .buf)
+    liveOf (l .s) (l .p) (l .da) v (l .bf) (l .sspov) (l .ckp) (l .ackstat) (l .acktim) (l .sspif) (l .full) (l .buf)
 
 abbrev pub setBF : Bool → Live → Live
 setBF v l =
-    liveOf (l .s) (l .p) (l .da) (l .rw) v (l .sspov) (l .ckp) (l .ackstat) (l .acktim) (l .sspif) (l .buf)
+    liveOf (l .s) (l .p) (l .da) (l .rw) v (l .sspov) (l .ckp) (l .ackstat) (l .acktim) (l .sspif) (l .full) (l .buf)
 
 abbrev pub setSSPOV : Bool → Live → Live
 setSSPOV v l =
-    liveOf (l .s) (l .p) (l .da) (l .rw) (l .bf) v (l .ckp) (l .ackstat) (l .acktim) (l .sspif) (l .buf)
+    liveOf (l .s) (l .p) (l .da) (l .rw) (l .bf) v (l .ckp) (l .ackstat) (l .acktim) (l .sspif) (l .full) (l .buf)
 
 abbrev pub setCKP : Bool → Live → Live
 setCKP v l =
-    liveOf (l .s) (l .p) (l .da) (l .rw) (l .bf) (l .sspov) v (l .ackstat) (l .acktim) (l .sspif) (l .buf)
+    liveOf (l .s) (l .p) (l .da) (l .rw) (l .bf) (l .sspov) v (l .ackstat) (l .acktim) (l .sspif) (l .full) (l .buf)
 
 abbrev pub setACKSTAT : Bool → Live → Live
 setACKSTAT v l =
-    liveOf (l .s) (l .p) (l .da) (l .rw) (l .bf) (l .sspov) (l .ckp) v (l .acktim) (l .sspif) (l .buf)
+    liveOf (l .s) (l .p) (l .da) (l .rw) (l .bf) (l .sspov) (l .ckp) v (l .acktim) (l .sspif) (l .full) (l .buf)
 
 abbrev pub setACKTIM : Bool → Live → Live
 setACKTIM v l =
-    liveOf (l .s) (l .p) (l .da) (l .rw) (l .bf) (l .sspov) (l .ckp) (l .ackstat) v (l .sspif) (l .buf)
+    liveOf (l .s) (l .p) (l .da) (l .rw) (l .bf) (l .sspov) (l .ckp) (l .ackstat) v (l .sspif) (l .full) (l .buf)
 
 abbrev pub setSSPIF : Bool → Live → Live
 setSSPIF v l =
-    liveOf (l .s) (l .p) (l .da) (l .rw) (l .bf) (l .sspov) (l .ckp) (l .ackstat) (l .acktim) v (l .buf)
+    liveOf (l .s) (l .p) (l .da) (l .rw) (l .bf) (l .sspov) (l .ckp) (l .ackstat) (l .acktim) v (l .full) (l .buf)
+
+-- The full match (02, 9) is no register's bit.
+abbrev pub setFull : Bool → Live → Live
+setFull v l =
+    liveOf (l .s) (l .p) (l .da) (l .rw) (l .bf) (l .sspov) (l .ckp) (l .ackstat) (l .acktim) (l .sspif) v (l .buf)
 
 abbrev pub setBUF : ℕ → Live → Live
 setBUF v l =
-    liveOf (l .s) (l .p) (l .da) (l .rw) (l .bf) (l .sspov) (l .ckp) (l .ackstat) (l .acktim) (l .sspif) v
+    liveOf (l .s) (l .p) (l .da) (l .rw) (l .bf) (l .sspov) (l .ckp) (l .ackstat) (l .acktim) (l .sspif) (l .full) v
 
 -- ---- what the registers hold and no edge changes
 abbrev pub configOf : Bool → Bool → Bool → Bool → Bool → Bool → Bool → Bool → Bool → Bool → Bool → Bool → Bool → Bool → Bool → Bool → Bool → ℕ → ℕ → Config
@@ -93,12 +98,19 @@ abbrev pub setMSK : ℕ → Config → Config
 setMSK v c =
     configOf (c .smp) (c .cke) (c .wcol) (c .sspen) (c .sspm3) (c .sspm2) (c .sspm1) (c .sspm0) (c .gcen) (c .ackdt) (c .sen) (c .pcie) (c .scie) (c .sdaht) (c .sbcde) (c .ahen) (c .dhen) (c .add) v
 
--- SSPM 0110 and 1110 are the modes that are modelled; the second interrupts at Start and Stop.
-abbrev pub modelled : Bool → Bool → Bool → Bool → Bool
-modelled sspm3 sspm2 sspm1 sspm0 = sspm2 && sspm1 && not sspm0
+-- SSPM 0110 and 1110 are modelled, and for ten bits 0111 and 1111 (02, 9); those with SSPM3 interrupt at Start and Stop.
+abbrev pub modelled : Bool → Bool → Bool
+modelled sspm2 sspm1 = sspm2 && sspm1
+
+abbrev pub tenBits : Bool → Bool → Bool → Bool
+tenBits sspm2 sspm1 sspm0 = sspm2 && sspm1 && sspm0
+
+-- The mode of a module has ten-bit addresses.
+abbrev pub isTenBit : Config → Bool
+isTenBit c = tenBits (c .sspm2) (c .sspm1) (c .sspm0)
 
 abbrev pub interrupting : Config → Bool
-interrupting c = c .sspm3 && modelled (c .sspm3) (c .sspm2) (c .sspm1) (c .sspm0)
+interrupting c = c .sspm3 && modelled (c .sspm2) (c .sspm1)
 
 -- ---- the module
 abbrev pub moduleOf : Config → Live → Phase → Line → Module
@@ -113,7 +125,7 @@ abbrev pub fresh : Module
 fresh =
     moduleOf
     (configOf false false false false false false false false false false false false false false false false false 0 255)
-    (liveOf false false false false false false false false false false 0)
+    (liveOf false false false false false false false false false false false 0)
     Quiet unseen
 
 -- Set up by the handler with an ADD (01, "Handler and plain device"): CON1 36, CON2 01, CON3 00, MSK FF.

@@ -1,8 +1,8 @@
 // The MSSP: its registers as bits, its phase, and what it pulls.
 ghost use mathlib.Core.Path.{_≡_};
 ghost use mathlib.Core.Bool.{cond};
-ghost use Rattle.mssp.specs.Module.{modelled, interrupting, fresh, setup};
-ghost use Rattle.mssp.specs.Phases.{slotNumber, slotAfter, phaseNumber, bitsOf, phaseMark, isSending, hasBits, eightBits};
+ghost use Rattle.mssp.specs.Module.{modelled, tenBits, interrupting, fresh, setup};
+ghost use Rattle.mssp.specs.Phases.{slotNumber, slotAfter, whichNumber, nextNumber, phaseNumber, bitsOf, phaseMark, phaseWhich, isHeldForAdd, isSending, hasBits, eightBits};
 ghost use Rattle.mssp.specs.Drivers.{sclPulled, sdaPulled};
 use wire::Bits;
 use wire::Line;
@@ -31,7 +31,7 @@ pub struct Config {
     pub msk: u8,
 }
 
-// What edges of the wire change: BUF and the flags.
+// What edges of the wire change: BUF, the flags, and the full match, which no register shows.
 pub struct Live {
     pub s: bool,
     pub p: bool,
@@ -43,6 +43,8 @@ pub struct Live {
     pub ackstat: bool,
     pub acktim: bool,
     pub sspif: bool,
+    // both bytes of the ten-bit address were acknowledged, so that a Restart can ask to send
+    pub full: bool,
     pub buf: u8,
 }
 
@@ -51,7 +53,7 @@ pub enum SlotCase {
     Pulls,
     // BF or SSPOV stood at the intake
     Refuses,
-    // ACKDT was 1 at the release from the hold before it
+    // ACKDT was 1 at the release from the hold before it; or a low byte that does not match
     Declines,
 }
 
@@ -62,20 +64,55 @@ pub const REFUSES: u8 = 2;
 
 pub const DECLINES: u8 = 3;
 
+// Which byte a hold before acknowledge or a slot belongs to. STAT cannot tell.
+pub enum Which {
+    // a seven-bit address or a data byte
+    Other,
+    High,
+    Low,
+    // a high byte with R/W 1
+    HighToSend,
+}
+
+// The kinds of byte by number.
+pub const OTHER: u8 = 0;
+
+pub const HIGH: u8 = 1;
+
+pub const LOW: u8 = 2;
+
+pub const HIGH_TO_SEND: u8 = 3;
+
+// What follows when ADD is written in the hold for it.
+pub enum Next {
+    NextQuiet,
+    NextLow,
+    NextData,
+}
+
+// What follows by number.
+pub const NEXT_QUIET: u8 = 0;
+
+pub const NEXT_LOW: u8 = 1;
+
+pub const NEXT_DATA: u8 = 2;
+
 // Where the module stands in a message, with what that place needs.
 pub enum Phase {
     Quiet,
-    // the bits so far
-    Address(Bits),
+    // the bits so far; of a low byte or of a first one
+    Address(Bits, bool),
     // the bits so far; held or not
     Data(Bits, bool),
-    // refused or not
-    HeldBefore(bool),
-    Slot(SlotCase),
+    // refused or not; which byte
+    HeldBefore(bool, Which),
+    Slot(SlotCase, Which),
     HeldForSending,
     // the byte; its place, 0 to 7
     Sending(u8, u8),
     MasterAcknowledge,
+    // ten bits: until ADD is written
+    HeldForAdd(Next),
 }
 
 // The phases by number.
@@ -94,6 +131,8 @@ pub const HELD_FOR_SENDING: u8 = 5;
 pub const SENDING: u8 = 6;
 
 pub const MASTER_ACKNOWLEDGE: u8 = 7;
+
+pub const HELD_FOR_ADD: u8 = 8;
 
 pub struct Module {
     pub config: Config,
@@ -128,18 +167,25 @@ pub fn pick_module(first: bool, m: Module, n: Module) -> Module
     if first { m } else { n }
 }
 
-// SSPM is 0110 or 1110, one of the modes that are modelled.
-pub fn is_modelled(sspm3: bool, sspm2: bool, sspm1: bool, sspm0: bool) -> bool
-    ensures { λ r. ⌜ r ≡ modelled sspm3 sspm2 sspm1 sspm0 ⌝ }
+// SSPM is 0110 or 1110, or 0111 or 1111 for ten bits: one of the modes that are modelled.
+pub fn is_modelled(sspm2: bool, sspm1: bool) -> bool
+    ensures { λ r. ⌜ r ≡ modelled sspm2 sspm1 ⌝ }
 {
-    sspm2 & sspm1 & !sspm0
+    sspm2 & sspm1
+}
+
+// SSPM is 0111 or 1111.
+pub fn has_ten_bits(sspm2: bool, sspm1: bool, sspm0: bool) -> bool
+    ensures { λ r. ⌜ r ≡ tenBits sspm2 sspm1 sspm0 ⌝ }
+{
+    sspm2 & sspm1 & sspm0
 }
 
 // The mode interrupts at Start and Stop.
 pub fn interrupts(c: Config) -> bool
     ensures { λ r. ⌜ r ≡ interrupting c ⌝ }
 {
-    c.sspm3 & is_modelled(c.sspm3, c.sspm2, c.sspm1, c.sspm0)
+    c.sspm3 & is_modelled(c.sspm2, c.sspm1)
 }
 
 // The number of a slot's case.
@@ -150,6 +196,29 @@ fn slot_number(slot: SlotCase) -> u8
         SlotCase::Pulls => PULLS,
         SlotCase::Refuses => REFUSES,
         SlotCase::Declines => DECLINES,
+    }
+}
+
+// The number of a kind of byte.
+fn which_number(which: Which) -> u8
+    ensures { λ r. ⌜ r ≡ whichNumber which ⌝ }
+{
+    match which {
+        Which::Other => OTHER,
+        Which::High => HIGH,
+        Which::Low => LOW,
+        Which::HighToSend => HIGH_TO_SEND,
+    }
+}
+
+// The number of what follows.
+fn next_number(next: Next) -> u8
+    ensures { λ r. ⌜ r ≡ nextNumber next ⌝ }
+{
+    match next {
+        Next::NextQuiet => NEXT_QUIET,
+        Next::NextLow => NEXT_LOW,
+        Next::NextData => NEXT_DATA,
     }
 }
 
@@ -173,13 +242,14 @@ pub fn phase_number(phase: Phase) -> u8
 {
     match phase {
         Phase::Quiet => QUIET,
-        Phase::Address(_) => ADDRESS,
+        Phase::Address(_, _) => ADDRESS,
         Phase::Data(_, _) => DATA,
-        Phase::HeldBefore(_) => HELD_BEFORE,
-        Phase::Slot(_) => SLOT,
+        Phase::HeldBefore(_, _) => HELD_BEFORE,
+        Phase::Slot(_, _) => SLOT,
         Phase::HeldForSending => HELD_FOR_SENDING,
         Phase::Sending(_, _) => SENDING,
         Phase::MasterAcknowledge => MASTER_ACKNOWLEDGE,
+        Phase::HeldForAdd(_) => HELD_FOR_ADD,
     }
 }
 
@@ -190,16 +260,17 @@ pub fn bits_of(phase: Phase) -> Bits
     let none = wire::no_bits();
     match phase {
         Phase::Quiet => none,
-        Phase::Address(bits) => bits,
+        Phase::Address(bits, _) => bits,
         Phase::Data(bits, _) => bits,
-        Phase::HeldBefore(_) => none,
-        Phase::Slot(_) => none,
+        Phase::HeldBefore(_, _) => none,
+        Phase::Slot(_, _) => none,
         Phase::HeldForSending => none,
         Phase::Sending(byte, place) => Bits {
             count: place,
             value: byte,
         },
         Phase::MasterAcknowledge => none,
+        Phase::HeldForAdd(_) => none,
     }
 }
 
@@ -209,14 +280,39 @@ pub fn phase_mark(phase: Phase) -> u8
 {
     match phase {
         Phase::Quiet => 0,
-        Phase::Address(_) => 0,
+        Phase::Address(_, _) => 0,
         Phase::Data(_, held) => held as u8,
-        Phase::HeldBefore(refused) => refused as u8,
-        Phase::Slot(slot) => slot_number(slot),
+        Phase::HeldBefore(refused, _) => refused as u8,
+        Phase::Slot(slot, _) => slot_number(slot),
         Phase::HeldForSending => 0,
         Phase::Sending(_, _) => 0,
         Phase::MasterAcknowledge => 0,
+        Phase::HeldForAdd(_) => 0,
     }
+}
+
+// Which byte the phase belongs to; in the hold for ADD, what follows.
+pub fn phase_which(phase: Phase) -> u8
+    ensures { λ r. ⌜ r ≡ phaseWhich phase ⌝ }
+{
+    match phase {
+        Phase::Quiet => 0,
+        Phase::Address(_, low) => pick_byte(low, LOW, OTHER),
+        Phase::Data(_, _) => 0,
+        Phase::HeldBefore(_, which) => which_number(which),
+        Phase::Slot(_, which) => which_number(which),
+        Phase::HeldForSending => 0,
+        Phase::Sending(_, _) => 0,
+        Phase::MasterAcknowledge => 0,
+        Phase::HeldForAdd(next) => next_number(next),
+    }
+}
+
+// The clock is held until ADD is written. UA is 1 exactly here.
+pub fn is_held_for_add(phase: Phase) -> bool
+    ensures { λ r. ⌜ r ≡ isHeldForAdd phase ⌝ }
+{
+    phase_number(phase) == HELD_FOR_ADD
 }
 
 // Bits come in an address and in data.
@@ -244,13 +340,14 @@ pub fn is_sending(phase: Phase) -> bool
 {
     match phase {
         Phase::Quiet => false,
-        Phase::Address(_) => false,
+        Phase::Address(_, _) => false,
         Phase::Data(_, _) => false,
-        Phase::HeldBefore(_) => false,
-        Phase::Slot(_) => false,
+        Phase::HeldBefore(_, _) => false,
+        Phase::Slot(_, _) => false,
         Phase::HeldForSending => false,
         Phase::Sending(_, _) => true,
         Phase::MasterAcknowledge => false,
+        Phase::HeldForAdd(_) => false,
     }
 }
 
@@ -260,13 +357,14 @@ pub fn pulls_scl(phase: Phase) -> bool
 {
     match phase {
         Phase::Quiet => false,
-        Phase::Address(_) => false,
+        Phase::Address(_, _) => false,
         Phase::Data(_, held) => held,
-        Phase::HeldBefore(_) => true,
-        Phase::Slot(_) => false,
+        Phase::HeldBefore(_, _) => true,
+        Phase::Slot(_, _) => false,
         Phase::HeldForSending => true,
         Phase::Sending(_, _) => false,
         Phase::MasterAcknowledge => false,
+        Phase::HeldForAdd(_) => true,
     }
 }
 
@@ -276,13 +374,14 @@ pub fn pulls_sda(phase: Phase) -> bool
 {
     match phase {
         Phase::Quiet => false,
-        Phase::Address(_) => false,
+        Phase::Address(_, _) => false,
         Phase::Data(_, _) => false,
-        Phase::HeldBefore(_) => false,
-        Phase::Slot(slot) => slot_number(slot) == PULLS,
+        Phase::HeldBefore(_, _) => false,
+        Phase::Slot(slot, _) => slot_number(slot) == PULLS,
         Phase::HeldForSending => false,
         Phase::Sending(byte, place) => wire::is_zero_at(byte, place),
         Phase::MasterAcknowledge => false,
+        Phase::HeldForAdd(_) => false,
     }
 }
 
@@ -323,6 +422,7 @@ fn fresh_module() -> Module
             ackstat: false,
             acktim: false,
             sspif: false,
+            full: false,
             buf: 0,
         },
         phase: Phase::Quiet,

@@ -13,12 +13,9 @@ byteOf b7 b6 b5 b4 b3 b2 b1 b0 =
     boolByte b7 * 128 + boolByte b6 * 64 + boolByte b5 * 32 + boolByte b4 * 16 + boolByte b3 * 8 + boolByte b2 * 4
     + boolByte b1 * 2 + boolByte b0
 
--- SMP, CKE, D/A, P, S, R/W, UA, BF. UA stays 0 in this mode.
-abbrev pub statBits : Bool → Bool → Bool → Bool → Bool → Bool → Bool → ℕ
-statBits smp cke da p s rw bf = byteOf smp cke da p s rw false bf
-
-abbrev pub statOf : Config → Live → ℕ
-statOf c l = statBits (c .smp) (c .cke) (l .da) (l .p) (l .s) (l .rw) (l .bf)
+-- SMP, CKE, D/A, P, S, R/W, UA, BF. UA is the phase's to say (02, 9).
+abbrev pub statOf : Config → Live → Bool → ℕ
+statOf c l ua = byteOf (c .smp) (c .cke) (l .da) (l .p) (l .s) (l .rw) ua (l .bf)
 
 -- WCOL, SSPOV, SSPEN, CKP, SSPM.
 abbrev pub con1Of : Config → Live → ℕ
@@ -42,9 +39,9 @@ con3Bits acktim pcie scie sdaht sbcde ahen dhen = byteOf acktim pcie scie false 
 abbrev pub con3Of : Config → Live → ℕ
 con3Of c l = con3Bits (l .acktim) (c .pcie) (c .scie) (c .sdaht) (c .sbcde) (c .ahen) (c .dhen)
 
--- ---- what of a byte a register holds: the bits that it has
+-- ---- what of a byte a register holds: the bits that it has; UA is none of them
 abbrev pub statHeld : ℕ → ℕ
-statHeld v = statBits (bit 7 v) (bit 6 v) (bit 5 v) (bit 4 v) (bit 3 v) (bit 2 v) (bit 0 v)
+statHeld v = byteOf (bit 7 v) (bit 6 v) (bit 5 v) (bit 4 v) (bit 3 v) (bit 2 v) false (bit 0 v)
 
 abbrev pub con1Held : ℕ → ℕ
 con1Held v = byteOf (bit 7 v) (bit 6 v) (bit 5 v) (bit 4 v) (bit 3 v) (bit 2 v) (bit 1 v) (bit 0 v)

@@ -1,6 +1,6 @@
 // STAT, CON1, CON2 and CON3 as they read: which bit stands where.
 ghost use mathlib.Core.Path.{_≡_};
-ghost use Rattle.register_bytes.specs.Bytes.{byteOf, statBits, statOf, con1Of, sspmOf, con2Bits, con2Of, con3Bits, con3Of, statHeld, con1Held, con2Held, con3Held, areHeld};
+ghost use Rattle.register_bytes.specs.Bytes.{byteOf, statOf, con1Of, sspmOf, con2Bits, con2Of, con3Bits, con3Of, statHeld, con1Held, con2Held, con3Held, areHeld};
 use mssp::Config;
 use mssp::Live;
 
@@ -18,17 +18,11 @@ fn pack(b7: bool, b6: bool, b5: bool, b4: bool, b3: bool, b2: bool, b1: bool, b0
         + (b0 as u8)
 }
 
-// UA is always 0.
-fn stat_bits(smp: bool, cke: bool, da: bool, p: bool, s: bool, rw: bool, bf: bool) -> u8
-    ensures { λ r. ⌜ r ≡ statBits smp cke da p s rw bf ⌝ }
+// UA is the phase's to say.
+pub fn stat(c: Config, l: Live, ua: bool) -> u8
+    ensures { λ r. ⌜ r ≡ statOf c l ua ⌝ }
 {
-    pack(smp, cke, da, p, s, rw, false, bf)
-}
-
-pub fn stat(c: Config, l: Live) -> u8
-    ensures { λ r. ⌜ r ≡ statOf c l ⌝ }
-{
-    stat_bits(c.smp, c.cke, l.da, l.p, l.s, l.rw, l.bf)
+    pack(c.smp, c.cke, l.da, l.p, l.s, l.rw, ua, l.bf)
 }
 
 pub fn con1(c: Config, l: Live) -> u8
@@ -96,17 +90,18 @@ pub fn con3(c: Config, l: Live) -> u8
     con3_bits(l.acktim, c.pcie, c.scie, c.sdaht, c.sbcde, c.ahen, c.dhen)
 }
 
-// What of a byte STAT holds.
+// What of a byte STAT holds: not UA.
 fn stat_held(v: u8) -> u8
     ensures { λ r. ⌜ r ≡ statHeld v ⌝ }
 {
-    stat_bits(
+    pack(
         v / 128 % 2 == 1,
         v / 64 % 2 == 1,
         v / 32 % 2 == 1,
         v / 16 % 2 == 1,
         v / 8 % 2 == 1,
         v / 4 % 2 == 1,
+        false,
         v / 1 % 2 == 1,
     )
 }

@@ -1,12 +1,16 @@
 // From levels to bytes: one function for each rule of the bus, and the sample that runs them.
 ghost use mathlib.Core.Path.{_≡_};
-ghost use Rattle.sampling.specs.Rules.{started, stopped, intake, addressByte, addressFall, dataByte, dataFall, pullEnded, slotEnded, bitSent, answered, fallen, dataRisen, risen, edgeStep, seen, sampled};
+ghost use mathlib.Core.Bool.{true};
+ghost use Rattle.mssp.specs.Module.{isTenBit};
+ghost use Rattle.sampling.specs.Rules.{started, stopped, intake, addressIf, highIf, firstIf, lowIf, addressByte, addressFall, dataByte, dataFall, followed, awaitsAdd, pullEnded, failEnded, slotEnded, bitSent, answered, fallen, dataRisen, risen, edgeStep, seen, sampled};
 ghost use Rattle.sampling.specs.Still.{isStill};
 use mssp::Config;
 use mssp::Live;
 use mssp::Module;
+use mssp::Next;
 use mssp::Phase;
 use mssp::SlotCase;
+use mssp::Which;
 use wire::Bits;
 use wire::Edge;
 
@@ -31,7 +35,7 @@ fn start(c: Config, l: Live, sending: bool) -> Live
     n
 }
 
-// Stop. SSPIF as PCIE or the mode asks; a byte that was being sent is dropped.
+// Stop. SSPIF as PCIE or the mode asks; a byte that was being sent is dropped, and the full match ends.
 fn stop(c: Config, l: Live, sending: bool) -> Live
     ensures { λ r. ⌜ r ≡ stopped c l sending ⌝ }
 {
@@ -40,14 +44,15 @@ fn stop(c: Config, l: Live, sending: bool) -> Live
     n.p = true;
     n.rw = false;
     n.acktim = false;
+    n.full = false;
     n.bf = l.bf & !sending;
     n.sspif = l.sspif | c.pcie | mssp::interrupts(c);
     n
 }
 
-// Intake of a byte, held before its acknowledge or not.
-fn take_in(c: Config, l: Live, byte: u8, hold: bool) -> Moved
-    ensures { λ r. ⌜ r ≡ intake c l byte hold ⌝ }
+// Intake of a byte, held before its acknowledge or not. Which byte it is, is handed on.
+fn take_in(c: Config, l: Live, byte: u8, hold: bool, which: Which) -> Moved
+    ensures { λ r. ⌜ r ≡ intake c l byte hold which ⌝ }
 {
     let refused = l.bf | l.sspov;
     let mut n = l;
@@ -58,27 +63,94 @@ fn take_in(c: Config, l: Live, byte: u8, hold: bool) -> Moved
     n.sspif = hold | l.sspif;
     n.ckp = l.ckp & !hold;
     let slot = mssp::slot_after(refused, false);
-    let next = mssp::pick_phase(hold, Phase::HeldBefore(refused), Phase::Slot(slot));
+    let held = Phase::HeldBefore(refused, which);
+    let next = mssp::pick_phase(hold, held, Phase::Slot(slot, which));
     Moved {
         live: n,
         phase: next,
     }
 }
 
-// A whole address at its eighth fall.
-fn address_byte(c: Config, l: Live, byte: u8) -> Moved
-    ensures { λ r. ⌜ r ≡ addressByte c l byte ⌝ }
+// A whole seven-bit address, by whether it hits.
+fn seven_bits(c: Config, l: Live, byte: u8, hits: bool) -> Moved
+    ensures { λ r. ⌜ r ≡ addressIf hits c l byte ⌝ }
 {
-    if address::is_taken(address::compare(c, byte)) {
+    if hits {
         let mut n = l;
         n.da = false;
         n.rw = byte / 1 % 2 == 1;
-        take_in(c, n, byte, c.ahen)
+        take_in(c, n, byte, c.ahen, Which::Other)
     } else {
         Moved {
             live: l,
             phase: Phase::Quiet,
         }
+    }
+}
+
+// A high byte that fits: to write, or after the full match to send.
+fn high_fits(c: Config, l: Live, byte: u8, to_send: bool) -> Moved
+    ensures { λ r. ⌜ r ≡ highIf true to_send (l .full) c l byte ⌝ }
+{
+    let mut n = l;
+    n.da = false;
+    n.rw = to_send;
+    if !to_send {
+        n.full = false;
+        return take_in(c, n, byte, c.ahen, Which::High);
+    }
+    if l.full {
+        take_in(c, n, byte, c.ahen, Which::HighToSend)
+    } else {
+        Moved {
+            live: l,
+            phase: Phase::Quiet,
+        }
+    }
+}
+
+// A whole first byte, by whether it hits.
+fn first_byte(c: Config, l: Live, byte: u8, hits: bool) -> Moved
+    ensures { λ r. ⌜ r ≡ firstIf (isTenBit c) hits c l byte ⌝ }
+{
+    if !mssp::has_ten_bits(c.sspm2, c.sspm1, c.sspm0) {
+        return seven_bits(c, l, byte, hits);
+    }
+    if hits {
+        return high_fits(c, l, byte, byte / 1 % 2 == 1);
+    }
+    let mut n = l;
+    n.full = false;
+    Moved {
+        live: n,
+        phase: Phase::Quiet,
+    }
+}
+
+// A whole low byte, by whether it is ADD.
+fn low_byte(c: Config, l: Live, byte: u8, fits: bool) -> Moved
+    ensures { λ r. ⌜ r ≡ lowIf fits c l byte ⌝ }
+{
+    if fits {
+        let mut n = l;
+        n.da = false;
+        take_in(c, n, byte, c.ahen, Which::Low)
+    } else {
+        Moved {
+            live: l,
+            phase: Phase::Slot(SlotCase::Declines, Which::Low),
+        }
+    }
+}
+
+// A whole address at its eighth fall.
+fn address_byte(c: Config, l: Live, byte: u8, low: bool) -> Moved
+    ensures { λ r. ⌜ r ≡ addressByte low c l byte ⌝ }
+{
+    if low {
+        low_byte(c, l, byte, byte == c.add)
+    } else {
+        first_byte(c, l, byte, address::is_taken(address::compare(c, byte)))
     }
 }
 
@@ -88,19 +160,19 @@ fn data_byte(c: Config, l: Live, byte: u8) -> Moved
 {
     let mut n = l;
     n.da = true;
-    take_in(c, n, byte, c.dhen)
+    take_in(c, n, byte, c.dhen, Which::Other)
 }
 
 // A fall in an address: the eighth ends it, any other ends no byte.
-fn address_fall(c: Config, l: Live, bits: Bits) -> Moved
-    ensures { λ r. ⌜ r ≡ addressFall c l bits ⌝ }
+fn address_fall(c: Config, l: Live, bits: Bits, low: bool) -> Moved
+    ensures { λ r. ⌜ r ≡ addressFall c l bits low ⌝ }
 {
     if wire::is_whole(bits) {
-        address_byte(c, l, bits.value)
+        address_byte(c, l, bits.value, low)
     } else {
         Moved {
             live: l,
-            phase: Phase::Address(bits),
+            phase: Phase::Address(bits, low),
         }
     }
 }
@@ -119,11 +191,10 @@ fn data_fall(c: Config, l: Live, bits: Bits, held: bool) -> Moved
     }
 }
 
-// The ninth fall of a slot that pulled: held for sending after a read address, else data follow.
-fn pull_fall(c: Config, l: Live) -> Moved
-    ensures { λ r. ⌜ r ≡ pullEnded c l ⌝ }
+// What follows a byte that was acknowledged: held for sending, or data.
+fn follow(c: Config, l: Live, to_send: bool) -> Moved
+    ensures { λ r. ⌜ r ≡ followed to_send c l ⌝ }
 {
-    let to_send = !l.da & l.rw;
     let mut n = l;
     n.sspif = true;
     n.ckp = l.ckp & !(to_send | c.sen);
@@ -135,24 +206,58 @@ fn pull_fall(c: Config, l: Live) -> Moved
     }
 }
 
-// The ninth fall ends the acknowledge slot. A byte that was refused interrupts, one that ACKDT declined does not.
-fn slot_fall(c: Config, l: Live, slot: SlotCase) -> Moved
-    ensures { λ r. ⌜ r ≡ slotEnded c l slot ⌝ }
+// The hold for ADD begins, with SSPIF.
+fn await_add(l: Live, next: Next) -> Moved
+    ensures { λ r. ⌜ r ≡ awaitsAdd l next ⌝ }
+{
+    let mut n = l;
+    n.sspif = true;
+    Moved {
+        live: n,
+        phase: Phase::HeldForAdd(next),
+    }
+}
+
+// The ninth fall of a slot that pulled, by the byte it belongs to.
+fn pull_fall(c: Config, l: Live, which: Which) -> Moved
+    ensures { λ r. ⌜ r ≡ pullEnded c l which ⌝ }
+{
+    let mut n = l;
+    n.full = true;
+    match which {
+        Which::Other => follow(c, l, !l.da & l.rw),
+        Which::High => await_add(l, Next::NextLow),
+        Which::Low => await_add(n, Next::NextData),
+        Which::HighToSend => follow(c, l, true),
+    }
+}
+
+// The ninth fall of one that did not. A byte that was refused interrupts, one that ACKDT declined does not, a low byte always.
+fn fail_fall(l: Live, refused: bool, which: Which) -> Moved
+    ensures { λ r. ⌜ r ≡ failEnded refused l which ⌝ }
+{
+    let mut n = l;
+    n.sspif = refused | l.sspif;
+    match which {
+        Which::Other => {}
+        Which::High => {}
+        Which::Low => return await_add(l, Next::NextQuiet),
+        Which::HighToSend => n.full = false,
+    }
+    Moved {
+        live: n,
+        phase: Phase::Quiet,
+    }
+}
+
+// The ninth fall ends the acknowledge slot.
+fn slot_fall(c: Config, l: Live, slot: SlotCase, which: Which) -> Moved
+    ensures { λ r. ⌜ r ≡ slotEnded c l slot which ⌝ }
 {
     match slot {
-        SlotCase::Pulls => pull_fall(c, l),
-        SlotCase::Refuses => {
-            let mut n = l;
-            n.sspif = true;
-            Moved {
-                live: n,
-                phase: Phase::Quiet,
-            }
-        }
-        SlotCase::Declines => Moved {
-            live: l,
-            phase: Phase::Quiet,
-        },
+        SlotCase::Pulls => pull_fall(c, l, which),
+        SlotCase::Refuses => fail_fall(l, true, which),
+        SlotCase::Declines => fail_fall(l, false, which),
     }
 }
 
@@ -199,19 +304,23 @@ fn on_fall(c: Config, l: Live, phase: Phase) -> Moved
             live: l,
             phase: phase,
         },
-        Phase::Address(bits) => address_fall(c, l, bits),
+        Phase::Address(bits, low) => address_fall(c, l, bits, low),
         Phase::Data(bits, held) => data_fall(c, l, bits, held),
-        Phase::HeldBefore(_) => Moved {
+        Phase::HeldBefore(_, _) => Moved {
             live: l,
             phase: phase,
         },
-        Phase::Slot(slot) => slot_fall(c, l, slot),
+        Phase::Slot(slot, which) => slot_fall(c, l, slot, which),
         Phase::HeldForSending => Moved {
             live: l,
             phase: phase,
         },
         Phase::Sending(byte, place) => sending_fall(l, byte, place),
         Phase::MasterAcknowledge => answer_fall(l),
+        Phase::HeldForAdd(_) => Moved {
+            live: l,
+            phase: phase,
+        },
     }
 }
 
@@ -234,13 +343,14 @@ fn on_rise(l: Live, phase: Phase, sda: bool) -> Moved
     let mut next = phase;
     match phase {
         Phase::Quiet => {}
-        Phase::Address(bits) => next = Phase::Address(wire::push(bits, sda)),
+        Phase::Address(bits, low) => next = Phase::Address(wire::push(bits, sda), low),
         Phase::Data(bits, held) => next = data_rise(bits, held, sda),
-        Phase::HeldBefore(_) => {}
-        Phase::Slot(_) => n.acktim = false,
+        Phase::HeldBefore(_, _) => {}
+        Phase::Slot(_, _) => n.acktim = false,
         Phase::HeldForSending => {}
         Phase::Sending(_, _) => {}
         Phase::MasterAcknowledge => n.ackstat = sda,
+        Phase::HeldForAdd(_) => {}
     }
     Moved {
         live: n,
@@ -262,7 +372,7 @@ fn on_edge(c: Config, l: Live, phase: Phase, e: Edge) -> Moved
             let bits = wire::no_bits();
             Moved {
                 live: n,
-                phase: Phase::Address(bits),
+                phase: Phase::Address(bits, false),
             }
         }
         Edge::Stop => {

@@ -8,8 +8,8 @@ release-phase-spec =
     tie.close
     (tie.spec
     (λ c. search needs) (λ c. search needs) (λ c. search needs) (λ c. search needs) (λ c κs. search needs)
-    (λ c. search needs) (λ c. search needs) (λ c. search needs) (λ c. search needs) (λ c. search needs) (λ c. search needs)
-    (λ c. simp (c .before .phase .given .1)) (λ c. simp (c .before .before .phase2 .given .1, c .slot-after .ensures))
-    (λ c. search needs)
-    (λ c. simp (c .enum-told4 .given .1))
-    (λ c. search needs) (λ c. search needs))
+    (λ c. search needs) (λ c. search needs) (λ c. search needs) (λ c. search needs) (λ c. search needs)
+    (λ c. simp (c .enum-told .given .1)) (λ c. simp (c .enum-told2 .given .1)) (λ c. simp (c .before .phase .given .1))
+    (λ c. simp (c .slot-after .ensures, c .before .before .phase2 .given .1)) (λ c. simp (c .enum-told3 .given .1))
+    (λ c. simp (c .enum-told4 .given .1)) (λ c. simp (c .enum-told5 .given .1)) (λ c. simp (c .enum-told6 .given .1))
+    (λ c. simp (c .enum-told7 .given .1)))
