@@ -88,34 +88,31 @@ fn seven_bits(c: Config, l: Live, byte: u8, hits: bool) -> Moved
     }
 }
 
-// A high byte that fits: to write, or after the full match to send.
-fn high_fits(c: Config, l: Live, byte: u8, to_send: bool) -> Moved
-    ensures { λ r. ⌜ r ≡ highIf true to_send (l .full) c l byte ⌝ }
+// A high byte that fits: to send, after the full match alone, or to write.
+fn high_fits(c: Config, l: Live, byte: u8, sends: bool) -> Moved
+    ensures { λ r. ⌜ r ≡ highIf true sends (l .full) c l byte ⌝ }
 {
     let mut n = l;
     n.da = false;
-    n.rw = to_send;
-    if !to_send {
-        n.full = false;
-        return take_in(c, n, byte, c.ahen, Which::High);
-    }
-    if l.full {
-        take_in(c, n, byte, c.ahen, Which::HighToSend)
-    } else {
-        Moved {
+    if sends {
+        n.rw = true;
+        if l.full {
+            return take_in(c, n, byte, c.ahen, Which::HighToSend);
+        }
+        return Moved {
             live: l,
             phase: Phase::Quiet,
-        }
+        };
     }
+    n.rw = false;
+    n.full = false;
+    take_in(c, n, byte, c.ahen, Which::High)
 }
 
-// A whole first byte, by whether it hits.
-fn first_byte(c: Config, l: Live, byte: u8, hits: bool) -> Moved
-    ensures { λ r. ⌜ r ≡ firstIf (isTenBit c) hits c l byte ⌝ }
+// A whole high byte, by whether it fits.
+fn high_byte(c: Config, l: Live, byte: u8, hits: bool) -> Moved
+    ensures { λ r. ⌜ r ≡ firstIf true hits c l byte ⌝ }
 {
-    if !mssp::has_ten_bits(c.sspm2, c.sspm1, c.sspm0) {
-        return seven_bits(c, l, byte, hits);
-    }
     if hits {
         return high_fits(c, l, byte, byte / 1 % 2 == 1);
     }
@@ -124,6 +121,17 @@ fn first_byte(c: Config, l: Live, byte: u8, hits: bool) -> Moved
     Moved {
         live: n,
         phase: Phase::Quiet,
+    }
+}
+
+// A whole first byte, by whether it hits.
+fn first_byte(c: Config, l: Live, byte: u8, hits: bool) -> Moved
+    ensures { λ r. ⌜ r ≡ firstIf (isTenBit c) hits c l byte ⌝ }
+{
+    if mssp::has_ten_bits(c.sspm2, c.sspm1, c.sspm0) {
+        high_byte(c, l, byte, hits)
+    } else {
+        seven_bits(c, l, byte, hits)
     }
 }
 
@@ -192,14 +200,14 @@ fn data_fall(c: Config, l: Live, bits: Bits, held: bool) -> Moved
 }
 
 // What follows a byte that was acknowledged: held for sending, or data.
-fn follow(c: Config, l: Live, to_send: bool) -> Moved
-    ensures { λ r. ⌜ r ≡ followed to_send c l ⌝ }
+fn follow(c: Config, l: Live, sends: bool) -> Moved
+    ensures { λ r. ⌜ r ≡ followed sends c l ⌝ }
 {
     let mut n = l;
     n.sspif = true;
-    n.ckp = l.ckp & !(to_send | c.sen);
+    n.ckp = l.ckp & !(sends | c.sen);
     let data = Phase::Data(wire::no_bits(), c.sen);
-    let next = mssp::pick_phase(to_send, Phase::HeldForSending, data);
+    let next = mssp::pick_phase(sends, Phase::HeldForSending, data);
     Moved {
         live: n,
         phase: next,

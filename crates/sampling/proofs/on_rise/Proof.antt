@@ -1,4 +1,4 @@
--- `sampling::on_rise` meets its contract: each arm knows its phase.
+-- `sampling::on_rise` meets its contract.
 use borrow.Author.Needs.{needs}
 use Rattle.sampling.proofs.on_rise.Statement.{statement}
 use Rattle.sampling.proofs.on_rise.Tie as tie
@@ -15,10 +15,8 @@ on-rise-spec =
     (tie.spec
     (λ c. search needs) (λ c. search needs) (λ c κs. search needs) (λ c. search needs) (λ c κs. search needs)
     (λ c. search needs) (λ c. search needs) (λ c. search needs) (λ c. search needs) (λ c. search needs)
-    (λ c. simp (c .enum-told .given .1))
-    (λ c. simp (c .before .before .phase .given .1, c .push .ensures))
-    (λ c. simp (c .before .before .phase2 .given .1, c .data-rise .ensures))
-    (λ c. simp (c .enum-told2 .given .1))
-    slot-ends-acktim
-    (λ c. simp (c .enum-told4 .given .1)) (λ c. simp (c .enum-told5 .given .1))
-    ackstat-is-sda)
+    (λ c. search needs) (λ c. simp (c .enum-told .given .1))
+    (λ c. simp (c .push .ensures, c .before .before .phase .given .1))
+    (λ c. simp (c .data-rise .ensures, c .before .before .phase2 .given .1)) (λ c. simp (c .enum-told2 .given .1))
+    slot-ends-acktim (λ c. simp (c .enum-told4 .given .1)) (λ c. simp (c .enum-told5 .given .1)) ackstat-is-sda
+    (λ c. simp (c .enum-told7 .given .1)))
