@@ -30,8 +30,8 @@ bit-back false = refl
 
 -- The eight registers as they read hold every bit of the module.
 registers-back :
-    (c : Config) (l : Live) → (configFrom (statOf c l) (con1Of c l) (con2Of c l) (con3Of c l) (c .add) (c .msk) ≡ c)
-    × (liveFrom (l .buf) (statOf c l) (con1Of c l) (con2Of c l) (con3Of c l) (boolByte (l .sspif)) ≡ l)
+    (c : Config) (l : Live) → (configFrom (statOf c l false) (con1Of c l) (con2Of c l) (con3Of c l) (c .add) (c .msk) ≡ c)
+    × (liveFrom (l .buf) (statOf c l false) (con1Of c l) (con2Of c l) (con3Of c l) (boolByte (l .sspif)) (boolByte (l .full)) ≡ l)
 registers-back c l =
     let stat = bits-back (c .smp) (c .cke) (l .da) (l .p) (l .s) (l .rw) false (l .bf) in
     let con1 = bits-back (c .wcol) (l .sspov) (c .sspen) (l .ckp) (c .sspm3) (c .sspm2) (c .sspm1) (c .sspm0) in
@@ -51,9 +51,9 @@ module-back m rest =
 same-byte : (x : ℕ) → eqb x x ≡ true
 same-byte x = eq-eqb x x refl
 
-module _ (b : List ℕ) {held stand : Bool} (l : moduleLength ≤ length b) (registers : held ≡ areHeld (getD b 1 0) (getD b 2 0) (getD b 3 0) (getD b 4 0)) (standing : stand ≡ isStand (getD b 8 0) (getD b 9 0) (getD b 10 0) (getD b 11 0) (getD b 12 0) (getD b 13 0)) where
+module _ (b : List ℕ) {held stand : Bool} (l : moduleLength ≤ length b) (registers : held ≡ areHeld (getD b 1 0) (getD b 2 0) (getD b 3 0) (getD b 4 0)) (standing : stand ≡ isStand (getD b 8 0) (getD b 9 0) (getD b 10 0) (getD b 11 0) (getD b 12 0) (getD b 13 0) (getD b 14 0)) where
   abbrev eachByte : Bool
-  eachByte = held && eqb (boolByte (bit 0 (getD b 7 0))) (getD b 7 0) && stand && eqb 0 (getD b 14 0) && eqb 0 (getD b 15 0)
+  eachByte = held && eqb (boolByte (bit 0 (getD b 7 0))) (getD b 7 0) && stand && eqb (boolByte (bit 0 (getD b 15 0))) (getD b 15 0)
 
   at-places : eachByte ≡ sameAt (modulePart (moduleFrom b)) 0 b
   at-places = simp (registers, standing, and-assoc, and-true, same-byte)
@@ -74,4 +74,4 @@ pub stand-saved :
 stand-saved ph line b e f =
     let rest : length (drop 8 b) ≤ length b - 8 = simp length-drop (omega arith) in
     simp (f, e, take-all (length b - 8) (drop 8 b) rest, drop-of-length-le (drop 8 b) rest, append-nil)
-    (ap (λ (after : List ℕ). take 8 b ++ (standPart ph line ++ after)) (drop-drop 6 8 b))
+    (ap (λ (after : List ℕ). take 8 b ++ (standPart ph line ++ after)) (drop-drop 7 8 b))

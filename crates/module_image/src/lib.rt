@@ -1,5 +1,5 @@
-// The module's part of an image: the registers as they read, the phase with its parts, and the line; whether bytes begin with
-// one, the module that they name, and what is written over it.
+// The module's part of an image: the registers as they read but for UA, the phase with its parts, the line, and the full match;
+// whether bytes begin with one, the module that they name, and what is written over it.
 ghost use mathlib.Core.Path.{_≡_};
 ghost use Prim.Native.Nat.{_≤_};
 ghost use lib.ListN.{length, take};
@@ -24,7 +24,7 @@ fn module_part(m: Module) -> [u8; MODULE_LENGTH]
 {
     let c = m.config;
     let l = m.live;
-    let stat = register_bytes::stat(c, l);
+    let stat = register_bytes::stat(c, l, false);
     let con1 = register_bytes::con1(c, l);
     let con2 = register_bytes::con2(c, l);
     let con3 = register_bytes::con3(c, l);
@@ -46,8 +46,8 @@ fn module_part(m: Module) -> [u8; MODULE_LENGTH]
         stand[3],
         stand[4],
         stand[5],
-        0,
-        0,
+        stand[6],
+        l.full as u8,
     ]
 }
 
@@ -77,8 +77,8 @@ fn config_from(stat: u8, con1: u8, con2: u8, con3: u8, add: u8, msk: u8) -> Conf
     }
 }
 
-fn live_from(buf: u8, stat: u8, con1: u8, con2: u8, con3: u8, flag: u8) -> Live
-    ensures { λ r. ⌜ r ≡ liveFrom buf stat con1 con2 con3 flag ⌝ }
+fn live_from(buf: u8, stat: u8, con1: u8, con2: u8, con3: u8, flag: u8, full: u8) -> Live
+    ensures { λ r. ⌜ r ≡ liveFrom buf stat con1 con2 con3 flag full ⌝ }
 {
     Live {
         s: stat / 8 % 2 == 1,
@@ -91,6 +91,7 @@ fn live_from(buf: u8, stat: u8, con1: u8, con2: u8, con3: u8, flag: u8) -> Live
         ackstat: con2 / 64 % 2 == 1,
         acktim: con3 / 128 % 2 == 1,
         sspif: flag / 1 % 2 == 1,
+        full: full / 1 % 2 == 1,
         buf: buf,
     }
 }
@@ -99,7 +100,7 @@ fn phase_in(b: &[u8]) -> Phase
     requires { ⌜ moduleLength ≤ length (now b) ⌝ }
     ensures { λ r. ⌜ r ≡ moduleFrom (now (b .entry)) .phase ⌝ }
 {
-    phase_image::phase_from(b[8], b[9], b[10], b[11])
+    phase_image::phase_from(b[8], b[9], b[10], b[11], b[14])
 }
 
 fn line_in(b: &[u8]) -> Line
@@ -115,7 +116,7 @@ pub fn module_from(b: &[u8]) -> Module
     ensures { λ r. ⌜ r ≡ moduleFrom (now (b .entry)) ⌝ }
 {
     let config = config_from(b[1], b[2], b[3], b[4], b[5], b[6]);
-    let live = live_from(b[0], b[1], b[2], b[3], b[4], b[7]);
+    let live = live_from(b[0], b[1], b[2], b[3], b[4], b[7], b[15]);
     Module {
         config: config,
         live: live,
@@ -144,11 +145,12 @@ fn is_part(b: &[u8]) -> bool
 {
     let flag = b[7];
     let lower = (flag / 1 % 2 == 1) as u8;
+    let full = b[15];
+    let matched = (full / 1 % 2 == 1) as u8;
     register_bytes::are_held(b[1], b[2], b[3], b[4])
         & (lower == flag)
-        & phase_image::is_stand(b[8], b[9], b[10], b[11], b[12], b[13])
-        & (0 == b[14])
-        & (0 == b[15])
+        & phase_image::is_stand(b[8], b[9], b[10], b[11], b[12], b[13], b[14])
+        & (matched == full)
 }
 
 // The clauses of a valid module, asked of its bytes.
@@ -158,12 +160,8 @@ fn is_valid(b: &[u8]) -> bool
 {
     let stat = b[1];
     let con1 = b[2];
-    let modelled = mssp::is_modelled(
-        con1 / 8 % 2 == 1,
-        con1 / 4 % 2 == 1,
-        con1 / 2 % 2 == 1,
-        con1 / 1 % 2 == 1,
-    );
+    let modelled = mssp::is_modelled(con1 / 4 % 2 == 1, con1 / 2 % 2 == 1);
+    let ten = mssp::has_ten_bits(con1 / 4 % 2 == 1, con1 / 2 % 2 == 1, con1 / 1 % 2 == 1);
     let phase = phase_in(b);
     let line = line_in(b);
     validity::is_valid(
@@ -171,7 +169,10 @@ fn is_valid(b: &[u8]) -> bool
         stat / 16 % 2 == 1,
         con1 / 32 % 2 == 1,
         modelled,
+        ten,
+        b[6],
         con1 / 16 % 2 == 1,
+        b[15] / 1 % 2 == 1,
         phase,
         line,
     )

@@ -1,8 +1,10 @@
-// Where a module stands, as six bytes: the phase with its parts, and the line; and the way back.
+// Where a module stands, as seven bytes: the phase with its parts, the line, and which byte it is about; and the way back.
 ghost use mathlib.Core.Path.{_≡_};
-ghost use Rattle.phase_image.specs.PhasePart.{slotFrom, phaseFrom, wireByte, wireFrom, lineFrom, standPart, isStand};
+ghost use Rattle.phase_image.specs.PhasePart.{slotFrom, whichFrom, nextFrom, phaseFrom, wireByte, wireFrom, lineFrom, standPart, isStand};
+use mssp::Next;
 use mssp::Phase;
 use mssp::SlotCase;
+use mssp::Which;
 use wire::Bits;
 use wire::Line;
 use wire::Remembered;
@@ -18,22 +20,46 @@ fn slot_from(number: u8) -> SlotCase
     }
 }
 
+// Which byte has the number, likewise.
+fn which_from(number: u8) -> Which
+    ensures { λ r. ⌜ r ≡ whichFrom number ⌝ }
+{
+    match number {
+        mssp::HIGH => Which::High,
+        mssp::LOW => Which::Low,
+        mssp::HIGH_TO_SEND => Which::HighToSend,
+        _ => Which::Other,
+    }
+}
+
+// What follows, likewise.
+fn next_from(number: u8) -> Next
+    ensures { λ r. ⌜ r ≡ nextFrom number ⌝ }
+{
+    match number {
+        mssp::NEXT_LOW => Next::NextLow,
+        mssp::NEXT_DATA => Next::NextData,
+        _ => Next::NextQuiet,
+    }
+}
+
 // The phase that has the number and these parts.
-pub fn phase_from(number: u8, count: u8, byte: u8, mark: u8) -> Phase
-    ensures { λ r. ⌜ r ≡ phaseFrom number count byte mark ⌝ }
+pub fn phase_from(number: u8, count: u8, byte: u8, mark: u8, which: u8) -> Phase
+    ensures { λ r. ⌜ r ≡ phaseFrom number count byte mark which ⌝ }
 {
     let bits = Bits {
         count: count,
         value: byte,
     };
     match number {
-        mssp::ADDRESS => Phase::Address(bits),
+        mssp::ADDRESS => Phase::Address(bits, which == mssp::LOW),
         mssp::DATA => Phase::Data(bits, mark == 1),
-        mssp::HELD_BEFORE => Phase::HeldBefore(mark == 1),
-        mssp::SLOT => Phase::Slot(slot_from(mark)),
+        mssp::HELD_BEFORE => Phase::HeldBefore(mark == 1, which_from(which)),
+        mssp::SLOT => Phase::Slot(slot_from(mark), which_from(which)),
         mssp::HELD_FOR_SENDING => Phase::HeldForSending,
         mssp::SENDING => Phase::Sending(byte, count),
         mssp::MASTER_ACKNOWLEDGE => Phase::MasterAcknowledge,
+        mssp::HELD_FOR_ADD => Phase::HeldForAdd(next_from(which)),
         _ => Phase::Quiet,
     }
 }
@@ -67,7 +93,7 @@ pub fn line_from(wire: u8, mark: u8) -> Line
     }
 }
 
-pub fn stand_part(phase: Phase, line: Line) -> [u8; 6]
+pub fn stand_part(phase: Phase, line: Line) -> [u8; 7]
     ensures { λ r. ⌜ r ≡ standPart phase line ⌝ }
 {
     let bits = mssp::bits_of(phase);
@@ -79,14 +105,23 @@ pub fn stand_part(phase: Phase, line: Line) -> [u8; 6]
         mssp::phase_mark(phase),
         wire_byte(remembered),
         line.mark as u8,
+        mssp::phase_which(phase),
     ]
 }
 
-// Whether six bytes are just the part of the phase and the line that they name.
-pub fn is_stand(number: u8, count: u8, byte: u8, mark: u8, wire: u8, marked: u8) -> bool
-    ensures { λ r. ⌜ r ≡ isStand number count byte mark wire marked ⌝ }
+// Whether seven bytes are just the part of the phase and the line that they name.
+pub fn is_stand(
+    number: u8,
+    count: u8,
+    byte: u8,
+    mark: u8,
+    wire: u8,
+    marked: u8,
+    which: u8,
+) -> bool
+    ensures { λ r. ⌜ r ≡ isStand number count byte mark wire marked which ⌝ }
 {
-    let phase = phase_from(number, count, byte, mark);
+    let phase = phase_from(number, count, byte, mark, which);
     let bits = mssp::bits_of(phase);
     let line = line_from(wire, marked);
     let remembered = line.remembered;
@@ -96,4 +131,5 @@ pub fn is_stand(number: u8, count: u8, byte: u8, mark: u8, wire: u8, marked: u8)
         & (mssp::phase_mark(phase) == mark)
         & (wire_byte(remembered) == wire)
         & (line.mark as u8 == marked)
+        & (mssp::phase_which(phase) == which)
 }

@@ -9,6 +9,7 @@ use Rattle.refusals.specs.declared.Verdict.{Verdict}
 use Rattle.refusals.specs.Numbers.{firstCause}
 use Rattle.mssp.specs.declared.Config.{Config}
 use Rattle.mssp.specs.declared.Live.{Live}
+use Rattle.mssp.specs.Phases.{isHeldForAdd}
 use Rattle.mssp.specs.declared.Module.{Module}
 use Rattle.effects.specs.Effects.{emptied}
 use Rattle.register_bytes.specs.Bytes.{statOf, con1Of, con2Of, con3Of}
@@ -46,6 +47,9 @@ isNowhere r = eqb (registerNumber r) 8
 abbrev pub isBUF : Register → Bool
 isBUF r = eqb (registerNumber r) 0
 
+abbrev pub isMSK : Register → Bool
+isMSK r = eqb (registerNumber r) 6
+
 abbrev pub isCON1 : Register → Bool
 isCON1 r = eqb (registerNumber r) 2
 
@@ -55,17 +59,21 @@ isCON2 r = eqb (registerNumber r) 3
 abbrev pub isCON3 : Register → Bool
 isCON3 r = eqb (registerNumber r) 4
 
--- What a register holds. Of the flag register only SSPIF is not 0.
-abbrev pub valueOf : Config → Live → Register → ℕ
-valueOf c l Buf = l .buf
-valueOf c l Stat = statOf c l
-valueOf c l Con1 = con1Of c l
-valueOf c l Con2 = con2Of c l
-valueOf c l Con3 = con3Of c l
-valueOf c l Add = c .add
-valueOf c l Msk = c .msk
-valueOf c l Flag = boolByte (l .sspif)
-valueOf c l Nowhere = 0
+-- What a register holds, by whether UA stands. Of the flag register only SSPIF is not 0.
+abbrev pub heldBy : Config → Live → Bool → Register → ℕ
+heldBy c l ua Buf = l .buf
+heldBy c l ua Stat = statOf c l ua
+heldBy c l ua Con1 = con1Of c l
+heldBy c l ua Con2 = con2Of c l
+heldBy c l ua Con3 = con3Of c l
+heldBy c l ua Add = c .add
+heldBy c l ua Msk = c .msk
+heldBy c l ua Flag = boolByte (l .sspif)
+heldBy c l ua Nowhere = 0
+
+-- What a module's register holds: UA is 1 exactly in the hold for ADD.
+abbrev pub valueOf : Module → Register → ℕ
+valueOf m r = heldBy (m .config) (m .live) (isHeldForAdd (m .phase)) r
 
 abbrev pub accessOf : Verdict → Module → Access
 accessOf verdict m = record { verdict = verdict; mssp = m }
@@ -81,4 +89,4 @@ afterRead r m = cond (isBUF r) (emptied m) m
 abbrev pub readOf : Module → ℕ → Access
 readOf m number =
     let register : Register = registerOf number in
-    accessOf (readVerdict register (valueOf (m .config) (m .live) register)) (afterRead register m)
+    accessOf (readVerdict register (valueOf m register)) (afterRead register m)

@@ -1,6 +1,6 @@
 // The eight registers by number: what a read gives and changes, and when it is refused.
 ghost use mathlib.Core.Path.{_≡_};
-ghost use Rattle.registers.specs.Values.{registerOf, valueOf, readVerdict, afterRead, readOf};
+ghost use Rattle.registers.specs.Values.{registerOf, heldBy, readVerdict, afterRead, readOf};
 use mssp::Config;
 use mssp::Live;
 use mssp::Module;
@@ -50,13 +50,13 @@ pub fn register_of(number: u32) -> Register
     }
 }
 
-// What a register holds; 0 where there is none.
-fn value(c: Config, l: Live, register: Register) -> u8
-    ensures { λ r. ⌜ r ≡ valueOf c l register ⌝ }
+// What a register holds, by whether UA stands; 0 where there is none.
+fn value(c: Config, l: Live, ua: bool, register: Register) -> u8
+    ensures { λ r. ⌜ r ≡ heldBy c l ua register ⌝ }
 {
     match register {
         Register::Buf => l.buf,
-        Register::Stat => register_bytes::stat(c, l),
+        Register::Stat => register_bytes::stat(c, l, ua),
         Register::Con1 => register_bytes::con1(c, l),
         Register::Con2 => register_bytes::con2(c, l),
         Register::Con3 => register_bytes::con3(c, l),
@@ -105,7 +105,9 @@ pub fn read(m: Module, number: u32) -> Access
     ensures { λ r. ⌜ r ≡ readOf m number ⌝ }
 {
     let register = register_of(number);
-    let held = value(m.config, m.live, register);
+    let phase = m.phase;
+    let ua = mssp::is_held_for_add(phase);
+    let held = value(m.config, m.live, ua, register);
     let next = after_read(m, register);
     Access {
         verdict: read_verdict(register, held),

@@ -1,7 +1,7 @@
 // Which modules there are, clause by clause.
 ghost use mathlib.Core.Path.{_≡_};
 ghost use Rattle.wire.specs.Wire.{sclHigh};
-ghost use Rattle.mssp.specs.Phases.{isQuiet};
+ghost use Rattle.mssp.specs.Phases.{isQuiet, ofTenBits};
 ghost use Rattle.mssp.specs.Valid.{bitsFit, partsFit, addressBegins, validBy};
 use mssp::Phase;
 use wire::Bits;
@@ -56,17 +56,27 @@ fn scl_high(remembered: Remembered) -> bool
     }
 }
 
+// The hold for ADD, and a phase of a high or a low byte.
+fn is_of_ten_bits(phase: Phase) -> bool
+    ensures { λ r. ⌜ r ≡ ofTenBits phase ⌝ }
+{
+    mssp::is_held_for_add(phase) | !(mssp::phase_which(phase) == mssp::OTHER)
+}
+
 // All clauses, in the order of the definition.
 pub fn is_valid(
     s: bool,
     p: bool,
     sspen: bool,
     modelled: bool,
+    ten: bool,
+    msk: u8,
     ckp: bool,
+    full: bool,
     phase: Phase,
     line: Line,
 ) -> bool
-    ensures { λ r. ⌜ r ≡ validBy s p sspen modelled ckp phase line ⌝ }
+    ensures { λ r. ⌜ r ≡ validBy s p sspen modelled ten msk ckp full phase line ⌝ }
 {
     let mark = line.mark;
     let remembered = line.remembered;
@@ -76,11 +86,14 @@ pub fn is_valid(
     let begins = address_begins(phase);
     let eight = mssp::has_eight_bits(phase);
     let held = mssp::pulls_scl(phase);
+    let for_add = mssp::is_held_for_add(phase);
+    let of_ten = is_of_ten_bits(phase);
     parts
         & !(s & p)
-        & (!sspen | modelled)
+        & (!sspen | (modelled & (!ten | (msk == 255))))
         & (sspen | (quiet & !mark))
         & (!mark | (s & high & begins))
         & (!eight | high)
-        & !(held & ckp)
+        & !(held & !for_add & ckp)
+        & ((sspen & ten) | !(full | of_ten))
 }

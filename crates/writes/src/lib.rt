@@ -1,7 +1,11 @@
 // What a write to a register takes, what it does beside that, and which writes are refused.
 ghost use mathlib.Core.Path.{_≡_};
+ghost use mathlib.Core.Bool.{cond};
+ghost use Rattle.refusals.specs.declared.Refusal.the-variants.{MaskedTenBits};
+ghost use Rattle.refusals.specs.declared.Verdict.the-variants.{Done, Refused};
+ghost use Rattle.mssp.specs.Module.{isTenBit};
 ghost use Rattle.registers.specs.declared.Register.the-variants.{Con1};
-ghost use Rattle.writes.specs.Writes.{statWritten, con1Stored, con1Written, con2Written, con3Written, flagWritten, withConfig, modeChange, verdictOf, written, writeOf};
+ghost use Rattle.writes.specs.Writes.{statWritten, con1Stored, con1Written, con2Written, con3Written, flagWritten, withConfig, modeChange, masked, verdictOf, written, writeOf};
 use mssp::Config;
 use mssp::Module;
 use refusals::Refusal;
@@ -105,21 +109,36 @@ fn is_mode_change(on: bool, mode: u8, v: u8) -> bool
     on & (v / 32 % 2 == 1) & !(v % 16 == mode)
 }
 
-// A write to CON1: a mode that is not modelled is looked at before a change of mode.
+// A ten-bit mode would run with a MSK other than FF.
+fn is_masked(on: bool, ten: bool, msk: u8) -> bool
+    ensures { λ r. ⌜ r ≡ masked on ten msk ⌝ }
+{
+    on & ten & !(msk == 255)
+}
+
+// A write to CON1: a mode that is not modelled is looked at before a change of mode, and that before a mask under ten bits.
 fn con1_verdict(m: Module, v: u8) -> Verdict
     ensures { λ r. ⌜ r ≡ verdictOf Con1 v m ⌝ }
 {
-    let modelled = mssp::is_modelled(
-        v / 8 % 2 == 1,
-        v / 4 % 2 == 1,
-        v / 2 % 2 == 1,
-        v / 1 % 2 == 1,
-    );
+    let modelled = mssp::is_modelled(v / 4 % 2 == 1, v / 2 % 2 == 1);
     let changes = is_mode_change(m.config.sspen, register_bytes::sspm(m.config), v);
+    let ten = mssp::has_ten_bits(v / 4 % 2 == 1, v / 2 % 2 == 1, v / 1 % 2 == 1);
+    let masks = is_masked(v / 32 % 2 == 1, ten, m.config.msk);
     let no_mode = Verdict::Refused(Refusal::NoMode);
     let mode_change = Verdict::Refused(Refusal::ModeChange);
-    let running = refusals::pick_verdict(changes, mode_change, Verdict::Done(0));
+    let masked = Verdict::Refused(Refusal::MaskedTenBits);
+    let enabled = refusals::pick_verdict(masks, masked, Verdict::Done(0));
+    let running = refusals::pick_verdict(changes, mode_change, enabled);
     refusals::pick_verdict((v / 32 % 2 == 1) & !modelled, no_mode, running)
+}
+
+// A write to MSK, which has to stay FF while a ten-bit mode runs.
+fn msk_verdict(c: Config, v: u8) -> Verdict
+    ensures { λ r. ⌜ r ≡ cond (masked (c .sspen) (isTenBit c) v) (Refused MaskedTenBits) (Done 0) ⌝ }
+{
+    let ten = mssp::has_ten_bits(c.sspm2, c.sspm1, c.sspm0);
+    let masked = Verdict::Refused(Refusal::MaskedTenBits);
+    refusals::pick_verdict(is_masked(c.sspen, ten, v), masked, Verdict::Done(0))
 }
 
 // Whether a write to a module is refused, and why: the first cause that holds.
@@ -135,7 +154,7 @@ fn write_verdict(m: Module, register: Register, v: u8) -> Verdict
         Register::Con2 => refusals::pick_verdict(!(v / 2 % 16 == 0), reserved, done),
         Register::Con3 => refusals::pick_verdict(v / 16 % 2 == 1, reserved, done),
         Register::Add => done,
-        Register::Msk => done,
+        Register::Msk => msk_verdict(m.config, v),
         Register::Flag => done,
         Register::Nowhere => Verdict::Refused(Refusal::NoRegister),
     }
@@ -152,10 +171,7 @@ fn take(m: Module, register: Register, v: u8) -> Module
         Register::Con1 => write_con1(m, v),
         Register::Con2 => with_config(m, write_con2(c, v)),
         Register::Con3 => with_config(m, write_con3(c, v)),
-        Register::Add => {
-            c.add = v;
-            with_config(m, c)
-        }
+        Register::Add => effects::update(m, v),
         Register::Msk => {
             c.msk = v;
             with_config(m, c)

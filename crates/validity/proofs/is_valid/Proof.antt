@@ -4,13 +4,11 @@ use Rattle.validity.proofs.is_valid.Statement.{statement}
 use Rattle.validity.proofs.is_valid.Tie as tie
 
 every-clause : tie.Need-returns
-every-clause c =
-    let quiet = c .before .before .before in
-    simp (quiet .before .before .scl-high .ensures, quiet .before .parts-fit .ensures, quiet .is-quiet .ensures, c .before .before .address-begins .ensures, c .before .has-eight-bits .ensures, c .pulls-scl .ensures)
+every-clause c = simp (c .before .before .before .before .before .before .before .scl-high .ensures, c .before .before .before .before .before .before .parts-fit .ensures, c .before .before .before .before .before .is-quiet .ensures, c .before .before .before .before .address-begins .ensures, c .before .before .before .has-eight-bits .ensures, c .before .before .pulls-scl .ensures, c .before .is-held-for-add .ensures, c .is-of-ten-bits .ensures)
 
 pub is-valid-spec : {M : Type 1} → statement M
 is-valid-spec =
     tie.close
     (tie.spec
     (λ c κs. search needs) (λ c κs. search needs) (λ c κs. search needs) (λ c κs. search needs) (λ c κs. search needs)
-    (λ c κs. search needs) every-clause)
+    (λ c κs. search needs) (λ c κs. search needs) (λ c κs. search needs) every-clause)

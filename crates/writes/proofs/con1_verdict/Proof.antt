@@ -3,12 +3,12 @@ use borrow.Author.Needs.{needs}
 use Rattle.writes.proofs.con1_verdict.Statement.{statement}
 use Rattle.writes.proofs.con1_verdict.Tie as tie
 
-no-mode-then-change : tie.Need-returns
-no-mode-then-change c = simp (c .pick-verdict2 .ensures, c .before .pick-verdict .ensures, c .before .before .is-mode-change .ensures, c .before .before .before .sspm .ensures, c .before .before .before .before .is-modelled .ensures)
+no-mode-then-change-then-mask : tie.Need-returns
+no-mode-then-change-then-mask c = simp (c .pick-verdict3 .ensures, c .before .pick-verdict2 .ensures, c .before .before .pick-verdict .ensures, c .before .before .before .is-masked .ensures, c .before .before .before .before .has-ten-bits .ensures, c .before .before .before .before .before .is-mode-change .ensures, c .before .before .before .before .before .before .sspm .ensures, c .before .before .before .before .before .before .before .is-modelled .ensures)
 
 pub con1-verdict-spec : {M : Type 1} → statement M
 con1-verdict-spec =
     tie.close
     (tie.spec
     (λ c κs. search needs) (λ c κs. search needs) (λ c κs. search needs) (λ c κs. search needs) (λ c κs. search needs)
-    no-mode-then-change)
+    (λ c κs. search needs) (λ c κs. search needs) (λ c κs. search needs) no-mode-then-change-then-mask)
