@@ -15,7 +15,7 @@ use Rattle.wire.specs.declared.Remembered.the-variants.{Nothing, Wire}
 use Rattle.mssp.specs.declared.Config.{Config}
 use Rattle.mssp.specs.declared.Live.{Live}
 use Rattle.mssp.specs.declared.Phase.{Phase}
-use Rattle.mssp.specs.declared.Phase.the-variants.{Quiet, Address, Data, HeldBefore, Slot, HeldForSending, Sending, MasterAcknowledge}
+use Rattle.mssp.specs.declared.Phase.the-variants.{Quiet, Address, Data, HeldBefore, Slot, HeldForSending, Sending, MasterAcknowledge, HeldForAdd}
 use Rattle.mssp.specs.declared.Module.{Module}
 use Rattle.mssp.specs.Module.{moduleOf}
 use Rattle.mssp.specs.Phases.{bitsOf, isSending}
@@ -34,23 +34,25 @@ use Rattle.samples.specs.Samples.{noSample, sampleAt, sampledAt, movedOn
 -- A phase has its own bits, and a byte that is sent its own place.
 own-bits : (ph : Phase) → withBits ph (bitsOf ph) ≡ ph
 own-bits Quiet = refl
-own-bits (Address bits) = refl
+own-bits (Address bits low) = refl
 own-bits (Data bits held) = refl
-own-bits (HeldBefore refused) = refl
-own-bits (Slot slot) = refl
+own-bits (HeldBefore refused which) = refl
+own-bits (Slot slot which) = refl
 own-bits HeldForSending = refl
 own-bits (Sending byte place) = refl
 own-bits MasterAcknowledge = refl
+own-bits (HeldForAdd next) = refl
 
 own-byte : (ph : Phase) → isSending ph ≡ true → Sending (bitsOf ph .value) (bitsOf ph .count) ≡ ph
 own-byte Quiet s = never s
-own-byte (Address bits) s = never s
+own-byte (Address bits low) s = never s
 own-byte (Data bits held) s = never s
-own-byte (HeldBefore refused) s = never s
-own-byte (Slot slot) s = never s
+own-byte (HeldBefore refused which) s = never s
+own-byte (Slot slot which) s = never s
 own-byte HeldForSending s = never s
 own-byte (Sending byte place) s = refl
 own-byte MasterAcknowledge s = never s
+own-byte (HeldForAdd next) s = never s
 
 -- ---- the stretches of an enabled module that has seen a wire
 module _ (c : Config) (enabled : c .sspen ≡ true) (l : Live) where

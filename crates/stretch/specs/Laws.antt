@@ -12,7 +12,7 @@ use Rattle.wire.specs.declared.Remembered.the-variants.{Nothing, Wire}
 use Rattle.wire.specs.Wire.{sclOf, sdaOf, onWire, condition, edgeFrom}
 use Rattle.wire.specs.Laws.{level-again}
 use Rattle.mssp.specs.declared.Phase.{Phase}
-use Rattle.mssp.specs.declared.Phase.the-variants.{Quiet, Address, Data, HeldBefore, Slot, HeldForSending, Sending, MasterAcknowledge}
+use Rattle.mssp.specs.declared.Phase.the-variants.{Quiet, Address, Data, HeldBefore, Slot, HeldForSending, Sending, MasterAcknowledge, HeldForAdd}
 use Rattle.mssp.specs.declared.Stand.{Stand}
 use Rattle.mssp.specs.Drivers.{sclPulled, sdaPulled}
 use Rattle.stretch.specs.declared.Seen.{Seen}
@@ -113,17 +113,18 @@ overOf ph acktim w level = overIf (stops ph acktim w level) ph w (onWire (sclPul
 over-is : (ph : Phase) (acktim : Bool) (w : Seen) (level : ℕ) → overOf ph acktim w level ≡ phaseStretch ph acktim w (level ∷ [])
 unfolding walked steps
 over-is Quiet acktim w level = stop-or-go (stops Quiet acktim w level) _ _ (stretchAt Quiet)
-over-is (Address bits) acktim w level =
-    stop-or-go (stops (Address bits) acktim w level) (bits, w) (takingGoes (bits, w) level) (λ (p : Bits × Seen). stretchAt (Address (p .0)) (p .1))
+over-is (Address bits low) acktim w level =
+    stop-or-go (stops (Address bits low) acktim w level) (bits, w) (takingGoes (bits, w) level) (λ (p : Bits × Seen). stretchAt (Address (p .0) low) (p .1))
 over-is (Data bits true) acktim w level = stop-or-go (stops (Data bits true) acktim w level) _ _ (stretchAt (Data bits true))
 over-is (Data bits false) acktim w level =
     stop-or-go (stops (Data bits false) acktim w level) (bits, w) (takingGoes (bits, w) level) (λ (p : Bits × Seen). stretchAt (Data (p .0) false) (p .1))
-over-is (HeldBefore refused) acktim w level = stop-or-go (stops (HeldBefore refused) acktim w level) _ _ (stretchAt (HeldBefore refused))
-over-is (Slot slot) acktim w level = stop-or-go (stops (Slot slot) acktim w level) _ _ (stretchAt (Slot slot))
+over-is (HeldBefore refused which) acktim w level = stop-or-go (stops (HeldBefore refused which) acktim w level) _ _ (stretchAt (HeldBefore refused which))
+over-is (Slot slot which) acktim w level = stop-or-go (stops (Slot slot which) acktim w level) _ _ (stretchAt (Slot slot which))
 over-is HeldForSending acktim w level = stop-or-go (stops HeldForSending acktim w level) _ _ (stretchAt HeldForSending)
 over-is (Sending byte place) acktim w level =
     stop-or-go (stops (Sending byte place) acktim w level) (place, w) (sendingGoes byte (place, w) level) (λ (p : ℕ × Seen). stretchAt (Sending byte (p .0)) (p .1))
 over-is MasterAcknowledge acktim w level = stop-or-go (stops MasterAcknowledge acktim w level) _ _ (stretchAt MasterAcknowledge)
+over-is (HeldForAdd next) acktim w level = stop-or-go (stops (HeldForAdd next) acktim w level) _ _ (stretchAt (HeldForAdd next))
 
 module _ (ph : Phase) (acktim : Bool) (w : Seen) (level : ℕ) where
   pub over-stops : stops ph acktim w level ≡ true → stretchAt ph w 0 ≡ phaseStretch ph acktim w (level ∷ [])

@@ -14,7 +14,7 @@ use Rattle.wire.specs.Wire.{sclOf, sdaOf, onWire}
 use Rattle.mssp.specs.declared.Config.{Config}
 use Rattle.mssp.specs.declared.Live.{Live}
 use Rattle.mssp.specs.declared.Phase.{Phase}
-use Rattle.mssp.specs.declared.Phase.the-variants.{Quiet, Address, Data, HeldBefore, Slot, HeldForSending, Sending, MasterAcknowledge}
+use Rattle.mssp.specs.declared.Phase.the-variants.{Quiet, Address, Data, HeldBefore, Slot, HeldForSending, Sending, MasterAcknowledge, HeldForAdd}
 use Rattle.mssp.specs.declared.Module.{Module}
 use Rattle.mssp.specs.Module.{moduleOf, setACKTIM}
 use Rattle.mssp.specs.Phases.{isSending}
@@ -139,11 +139,11 @@ module _ (c : Config) (enabled : c .sspen ≡ true) (l : Live) where
       (ph : Phase) → takesBits ph ≡ true → (p : Bits × Seen) (item : ℕ) → takingStops p item ≡ false
       → Sampled c l (withBits ph (p .0)) (p .1) item (withBits ph (takingGoes p item .0)) (takingGoes p item .1)
   bits-go Quiet t p item h = never t
-  bits-go (Address bits) t p item h =
+  bits-go (Address bits low) t p item h =
       let k = level-goes item h in
       record {
         level = k .0;
-        leaves = taken-goes (λ (b : Bits). Address b) p item (λ sda. refl) (λ e. ap (λ (x : Bool). addressFallIf x c l (p .0)) e) (k .1);
+        leaves = taken-goes (λ (b : Bits). Address b low) p item (λ sda. refl) (λ e. ap (λ (x : Bool). addressFallIf x c l (p .0) low) e) (k .1);
       }
   bits-go (Data bits true) t p item h = never t
   bits-go (Data bits false) t p item h =
@@ -152,36 +152,39 @@ module _ (c : Config) (enabled : c .sspen ≡ true) (l : Live) where
         level = k .0;
         leaves = taken-goes (λ (b : Bits). Data b false) p item (λ sda. refl) (λ e. ap (λ (x : Bool). dataFallIf x c l (p .0) false) e) (k .1);
       }
-  bits-go (HeldBefore refused) t p item h = never t
-  bits-go (Slot slot) t p item h = never t
+  bits-go (HeldBefore refused which) t p item h = never t
+  bits-go (Slot slot which) t p item h = never t
   bits-go HeldForSending t p item h = never t
   bits-go (Sending byte place) t p item h = never t
   bits-go MasterAcknowledge t p item h = never t
+  bits-go (HeldForAdd next) t p item h = never t
 
   -- Any other phase stays as it is at the edges that it has no rule for.
   rises-by :
       (ph : Phase) → takesBits ph ≡ false → riseRule ph (l .acktim) ≡ false → (sda : Bool) → edgeStep c l ph (Rise sda) ≡ l at ph
   rises-by Quiet t r sda = refl
-  rises-by (Address bits) t r sda = never (sym t)
+  rises-by (Address bits low) t r sda = never (sym t)
   rises-by (Data bits true) t r sda = refl
   rises-by (Data bits false) t r sda = never (sym t)
-  rises-by (HeldBefore refused) t r sda = refl
-  rises-by (Slot slot) t r sda = ap (λ (x : Bool). setACKTIM x l at Slot slot) (sym r)
+  rises-by (HeldBefore refused which) t r sda = refl
+  rises-by (Slot slot which) t r sda = ap (λ (x : Bool). setACKTIM x l at Slot slot which) (sym r)
   rises-by HeldForSending t r sda = refl
   rises-by (Sending byte place) t r sda = refl
   rises-by MasterAcknowledge t r sda = never (sym r)
+  rises-by (HeldForAdd next) t r sda = refl
 
   falls-by :
       (ph : Phase) → takesBits ph ≡ false → isSending ph ≡ false → fallRule ph ≡ false → edgeStep c l ph Fall ≡ l at ph
   falls-by Quiet t s f = refl
-  falls-by (Address bits) t s f = never (sym t)
+  falls-by (Address bits low) t s f = never (sym t)
   falls-by (Data bits true) t s f = ap (λ (x : Bool). dataFallIf x c l bits true) f
   falls-by (Data bits false) t s f = never (sym t)
-  falls-by (HeldBefore refused) t s f = refl
-  falls-by (Slot slot) t s f = never (sym f)
+  falls-by (HeldBefore refused which) t s f = refl
+  falls-by (Slot slot which) t s f = never (sym f)
   falls-by HeldForSending t s f = refl
   falls-by (Sending byte place) t s f = never (sym s)
   falls-by MasterAcknowledge t s f = never (sym f)
+  falls-by (HeldForAdd next) t s f = refl
 
   pub rest-goes :
       (ph : Phase) → takesBits ph ≡ false → isSending ph ≡ false → (w : Seen) (item : ℕ)

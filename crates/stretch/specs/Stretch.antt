@@ -9,7 +9,7 @@ use Rattle.wire.specs.declared.Remembered.the-variants.{Nothing, Wire}
 use Rattle.wire.specs.Byte.{whole, zeroAt}
 use Rattle.wire.specs.Wire.{sclOf, sdaOf, onWire}
 use Rattle.mssp.specs.declared.Phase.{Phase}
-use Rattle.mssp.specs.declared.Phase.the-variants.{Quiet, Address, Data, HeldBefore, Slot, HeldForSending, Sending, MasterAcknowledge}
+use Rattle.mssp.specs.declared.Phase.the-variants.{Quiet, Address, Data, HeldBefore, Slot, HeldForSending, Sending, MasterAcknowledge, HeldForAdd}
 use Rattle.mssp.specs.declared.Module.{Module}
 use Rattle.mssp.specs.declared.Stand.{Stand}
 use Rattle.mssp.specs.Module.{standOf}
@@ -81,13 +81,14 @@ takesBits ph = hasBits ph && not (sclPulled ph)
 -- The same phase with other bits.
 abbrev pub withBits : Phase → Bits → Phase
 withBits Quiet b = Quiet
-withBits (Address bits) b = Address b
+withBits (Address bits low) b = Address b low
 withBits (Data bits held) b = Data b held
-withBits (HeldBefore refused) b = HeldBefore refused
-withBits (Slot slot) b = Slot slot
+withBits (HeldBefore refused which) b = HeldBefore refused which
+withBits (Slot slot which) b = Slot slot which
 withBits HeldForSending b = HeldForSending
 withBits (Sending byte place) b = Sending byte place
 withBits MasterAcknowledge b = MasterAcknowledge
+withBits (HeldForAdd next) b = HeldForAdd next
 
 -- The phases that take no bits and have a rule for a rise, the slot only while ACKTIM stands.
 abbrev pub riseRule : Phase → Bool → Bool

@@ -213,13 +213,14 @@ fn with_bits(phase: Phase, bits: Bits) -> Phase
 {
     match phase {
         Phase::Quiet => phase,
-        Phase::Address(_) => Phase::Address(bits),
+        Phase::Address(_, low) => Phase::Address(bits, low),
         Phase::Data(_, held) => Phase::Data(bits, held),
-        Phase::HeldBefore(_) => phase,
-        Phase::Slot(_) => phase,
+        Phase::HeldBefore(_, _) => phase,
+        Phase::Slot(_, _) => phase,
         Phase::HeldForSending => phase,
         Phase::Sending(_, _) => phase,
         Phase::MasterAcknowledge => phase,
+        Phase::HeldForAdd(_) => phase,
     }
 }
 

@@ -1,12 +1,13 @@
 -- What the scope draws of a state: the registers read without effect, what the module pulls, its phase with its parts, the
--- line, and the handler's variables.
+-- line, the handler's variables, and which byte of ten bits it is about.
+use Prim.Native.Nat.{ℕ}
+use mathlib.Core.Bool.{cond}
 use mir.Val.{boolByte}
 use Rattle.refusals.specs.declared.Refusal.the-variants.{NoState}
 use Rattle.refusals.specs.Numbers.{numberOf}
-use Rattle.mssp.specs.declared.Config.{Config}
-use Rattle.mssp.specs.declared.Live.{Live}
 use Rattle.mssp.specs.declared.Module.{Module}
-use Rattle.mssp.specs.Phases.{phaseNumber, bitsOf, isRefused}
+use Rattle.mssp.specs.declared.Phase.{Phase}
+use Rattle.mssp.specs.Phases.{phaseNumber, bitsOf, phaseWhich, isHeldForAdd, isRefused}
 use Rattle.mssp.specs.Drivers.{sclPulled, sdaPulled}
 use Rattle.registers.specs.declared.Register.the-variants.{Buf, Stat, Con1, Con2, Con3, Add, Msk, Flag}
 use Rattle.registers.specs.Values.{valueOf}
@@ -14,21 +15,26 @@ use Rattle.firmware.specs.declared.State.{State}
 use Rattle.phase_image.specs.PhasePart.{wireByte}
 use Rattle.view.specs.declared.View.{View}
 
+-- Which byte an address, a hold before acknowledge or a slot belongs to; and what follows the hold for ADD.
+abbrev pub whichSeen : Phase → ℕ
+whichSeen ph = cond (isHeldForAdd ph) 0 (phaseWhich ph)
+
+abbrev pub nextSeen : Phase → ℕ
+nextSeen ph = cond (isHeldForAdd ph) (phaseWhich ph) 0
+
 abbrev pub viewOf : State → View
 viewOf s =
     let m : Module = s .mssp in
-    let c : Config = m .config in
-    let l : Live = m .live in
     record {
       refusal = 0;
-      buf = valueOf c l Buf;
-      stat = valueOf c l Stat;
-      con1 = valueOf c l Con1;
-      con2 = valueOf c l Con2;
-      con3 = valueOf c l Con3;
-      add = valueOf c l Add;
-      msk = valueOf c l Msk;
-      flag = valueOf c l Flag;
+      buf = valueOf m Buf;
+      stat = valueOf m Stat;
+      con1 = valueOf m Con1;
+      con2 = valueOf m Con2;
+      con3 = valueOf m Con3;
+      add = valueOf m Add;
+      msk = valueOf m Msk;
+      flag = valueOf m Flag;
       «scl_pulled» = boolByte (sclPulled (m .phase));
       «sda_pulled» = boolByte (sdaPulled (m .phase));
       phase = phaseNumber (m .phase);
@@ -40,6 +46,9 @@ viewOf s =
       due = boolByte (s .handler .due);
       n = s .handler .n;
       pointer = s .handler .pointer;
+      which = whichSeen (m .phase);
+      next = nextSeen (m .phase);
+      full = boolByte (m .live .full);
     }
 
 -- Bytes that are no state's image: the refusal's number, and nothing to see.
@@ -66,4 +75,7 @@ noView =
       due = 0;
       n = 0;
       pointer = 0;
+      which = 0;
+      next = 0;
+      full = 0;
     }

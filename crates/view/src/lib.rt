@@ -21,7 +21,7 @@ pub struct View {
     // 1: the module pulls the line low
     pub scl_pulled: u8,
     pub sda_pulled: u8,
-    // 0 to 7
+    // 0 to 8
     pub phase: u8,
     // address, data: how many bits so far; sending: the place; else 0
     pub bits: u8,
@@ -35,6 +35,11 @@ pub struct View {
     pub due: u8,
     pub n: u16,
     pub pointer: u16,
+    // address, held before acknowledge, slot: which byte; else 0
+    pub which: u8,
+    // held for ADD: what follows; else 0
+    pub next: u8,
+    pub full: u8,
 }
 
 // A hold before acknowledge or a slot whose byte was refused.
@@ -55,12 +60,14 @@ pub fn draw(s: State) -> View
     let l = m.live;
     let phase = m.phase;
     let bits = mssp::bits_of(phase);
+    let held = mssp::is_held_for_add(phase);
+    let which = mssp::phase_which(phase);
     let line = m.line;
     let remembered = line.remembered;
     View {
         refusal: 0,
         buf: l.buf,
-        stat: register_bytes::stat(c, l),
+        stat: register_bytes::stat(c, l, held),
         con1: register_bytes::con1(c, l),
         con2: register_bytes::con2(c, l),
         con3: register_bytes::con3(c, l),
@@ -78,6 +85,9 @@ pub fn draw(s: State) -> View
         due: s.handler.due as u8,
         n: s.handler.n,
         pointer: s.handler.pointer,
+        which: mssp::pick_byte(held, 0, which),
+        next: mssp::pick_byte(held, which, 0),
+        full: l.full as u8,
     }
 }
 
@@ -106,5 +116,8 @@ pub fn no_view() -> View
         due: 0,
         n: 0,
         pointer: 0,
+        which: 0,
+        next: 0,
+        full: 0,
     }
 }

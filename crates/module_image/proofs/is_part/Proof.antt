@@ -7,15 +7,14 @@ use Rattle.module_image.proofs.is_part.Tie as tie
 
 byte-by-byte : tie.Need-returns
 byte-by-byte c =
-    let a = c .before .before .before .before .before .before .before .before .before .before .before .before .before .before .before .before .args in
-    part-byte-by-byte (now (a .b)) (c .before .before .before .before .before .before .before .before .before .before .before .before .before .before .before .before .pre) (c .before .before .before .before .before .before .before .before .before .are-held .ensures) (c .before .before .is-stand .ensures)
+    let are = c .before .before .before .before .before .before .before .before in
+    part-byte-by-byte (now (are .before .before .before .before .before .before .before .before .args .b)) (are .before .before .before .before .before .before .before .before .pre) (are .are-held .ensures) (c .is-stand .ensures)
 
 pub is-part-spec : {M : Type 1} → statement M
 is-part-spec =
     tie.close
     (tie.spec
     (λ c. search needs) (λ c. search needs) (λ c. search needs) (λ c. search needs) (λ c. search needs)
-    (λ c. search needs) (λ c κs. search needs) (λ c. search needs) (λ c. search needs) (λ c. search needs)
     (λ c. search needs) (λ c. search needs) (λ c. search needs) (λ c κs. search needs) (λ c. search needs)
-    (λ c. search needs)
-    byte-by-byte)
+    (λ c. search needs) (λ c. search needs) (λ c. search needs) (λ c. search needs) (λ c. search needs)
+    (λ c. search needs) (λ c κs. search needs) byte-by-byte)

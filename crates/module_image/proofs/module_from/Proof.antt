@@ -9,6 +9,6 @@ module-from-spec =
     (tie.spec
     (λ c. search needs) (λ c. search needs) (λ c. search needs) (λ c. search needs) (λ c. search needs)
     (λ c. search needs) (λ c κs. search needs) (λ c. search needs) (λ c. search needs) (λ c. search needs)
-    (λ c. search needs) (λ c. search needs) (λ c. search needs) (λ c κs. search needs) (λ c κs. search needs)
-    (λ c κs. search needs)
-    (λ c. simp (c .line-in .ensures, c .before .phase-in .ensures, c .before .before .live-from .ensures, c .before .before .before .before .before .before .before .before .before .config-from .ensures)))
+    (λ c. search needs) (λ c. search needs) (λ c. search needs) (λ c. search needs) (λ c κs. search needs)
+    (λ c κs. search needs) (λ c κs. search needs)
+    (λ c. simp (c .line-in .ensures, c .before .phase-in .ensures, c .before .before .live-from .ensures, c .before .before .before .before .before .before .before .before .before .before .config-from .ensures)))

@@ -5,7 +5,11 @@ use Rattle.phase_image.proofs.is_stand.Statement.{statement}
 use Rattle.phase_image.proofs.is_stand.Tie as tie
 
 seven-bytes : tie.Need-returns
-seven-bytes c = simp (c .phase-which .ensures, c .before .before .wire-byte .ensures, c .before .before .before .phase-mark .ensures, c .before .before .before .before .before .before .phase-number .ensures, c .before .before .before .before .before .before .before .line-from .ensures, c .before .before .before .before .before .before .before .before .bits-of .ensures, c .before .before .before .before .before .before .before .before .before .phase-from .ensures, and-assoc, and-true)
+seven-bytes c =
+    let phase = c .before .before .before in
+    let phasenumber = phase .before .before .before in
+    let phasefrom = phasenumber .before .before .before in
+    simp (c .phase-which .ensures, c .before .before .wire-byte .ensures, phase .phase-mark .ensures, phasenumber .phase-number .ensures, phasenumber .before .line-from .ensures, phasenumber .before .before .bits-of .ensures, phasefrom .phase-from .ensures, and-assoc, and-true)
 
 pub is-stand-spec : {M : Type 1} → statement M
 is-stand-spec =

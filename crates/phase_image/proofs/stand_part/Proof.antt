@@ -4,7 +4,9 @@ use Rattle.phase_image.proofs.stand_part.Statement.{statement}
 use Rattle.phase_image.proofs.stand_part.Tie as tie
 
 each-part : tie.Need-returns
-each-part c = simp (c .phase-which .ensures, c .before .before .wire-byte .ensures, c .before .before .before .phase-mark .ensures, c .before .before .before .before .phase-number .ensures, c .before .before .before .before .before .bits-of .ensures)
+each-part c =
+    let phase = c .before .before .before in
+    simp (c .phase-which .ensures, c .before .before .wire-byte .ensures, phase .phase-mark .ensures, phase .before .phase-number .ensures, phase .before .before .bits-of .ensures)
 
 pub stand-part-spec : {M : Type 1} → statement M
 stand-part-spec =

@@ -4,7 +4,10 @@ use Rattle.validity.proofs.is_valid.Statement.{statement}
 use Rattle.validity.proofs.is_valid.Tie as tie
 
 every-clause : tie.Need-returns
-every-clause c = simp (c .before .before .before .before .before .before .before .scl-high .ensures, c .before .before .before .before .before .before .parts-fit .ensures, c .before .before .before .before .before .is-quiet .ensures, c .before .before .before .before .address-begins .ensures, c .before .before .before .has-eight-bits .ensures, c .before .before .pulls-scl .ensures, c .before .is-held-for-add .ensures, c .is-of-ten-bits .ensures)
+every-clause c =
+    let haseightbits = c .before .before .before in
+    let parts = haseightbits .before .before .before in
+    simp (parts .before .scl-high .ensures, parts .parts-fit .ensures, haseightbits .before .before .is-quiet .ensures, haseightbits .before .address-begins .ensures, haseightbits .has-eight-bits .ensures, c .before .before .pulls-scl .ensures, c .before .is-held-for-add .ensures, c .is-of-ten-bits .ensures)
 
 pub is-valid-spec : {M : Type 1} → statement M
 is-valid-spec =
