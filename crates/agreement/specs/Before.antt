@@ -26,7 +26,7 @@ use Rattle.agreement.specs.Joint.{Joint, joint, beforeAfter, ninthAfter,
 use Rattle.course.specs.Following.{moduleAtEdge, readerAtEdge}
 
 abbrev asSetUp : Bool → Live
-asSetUp p = liveOf false p false false false false true false false false 0
+asSetUp p = liveOf false p false false false false true false false false false 0
 
 -- The states until then: as set up, but for the wire remembered and P, which a Stop sets.
 abbrev beforeStart : ℕ → ℕ → List ℕ → Line → Bool → Joint

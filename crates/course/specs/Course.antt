@@ -11,10 +11,11 @@ use Rattle.address.specs.Comparison.{hitOf, isTaken}
 use Rattle.mssp.specs.declared.Config.{Config}
 use Rattle.mssp.specs.declared.Live.{Live}
 use Rattle.mssp.specs.declared.SlotCase.the-variants.{Pulls}
+use Rattle.mssp.specs.declared.Which.the-variants.{Other}
 use Rattle.mssp.specs.declared.Phase.{Phase}
 use Rattle.mssp.specs.declared.Phase.the-variants.{Quiet, Address, Data, Slot, HeldForSending, Sending, MasterAcknowledge}
 use Rattle.mssp.specs.declared.Module.{Module}
-use Rattle.mssp.specs.Module.{moduleOf, liveOf}
+use Rattle.mssp.specs.Module.{moduleOf, isTenBit, liveOf}
 use Rattle.reader.specs.declared.Ninth.{Ninth}
 use Rattle.reader.specs.declared.Ninth.the-variants.{Waiting, Got}
 use Rattle.reader.specs.declared.Place.{Place}
@@ -27,9 +28,10 @@ use Rattle.plain.specs.declared.Turn.{Turn}
 use Rattle.plain.specs.declared.Turn.the-variants.{Off, Writing, Reading}
 use Rattle.plain.specs.Device.{own}
 
--- Enabled, with a hold after each acknowledged byte and none before; what is taken is the own address.
+-- Enabled in a seven-bit mode, with a hold after each acknowledged byte and none before; what is taken is the own address.
 pub record AnswersAlone (add : ℕ) (c : Config) : Type 0 where
   pub enabled : c .sspen ≡ true
+  pub seven-bits : isTenBit c ≡ false
   pub held-after : c .sen ≡ true
   pub address-not-held : c .ahen ≡ false
   pub data-not-held : c .dhen ≡ false
@@ -88,13 +90,13 @@ pub data Runs (add : ℕ) : Kind → ℕ → Bool → Bool → Bool → Bool →
       {v : ℕ} {da rw ks : Bool} {z : Remembered} {place : Place} → Apart add place
       → Runs add off v false da rw ks Quiet z place
   addressing :
-      {v : ℕ} {da rw ks l d : Bool} {b : Bits} → Runs add off v false da rw ks (Address b) (Wire l d) (Within true b)
+      {v : ℕ} {da rw ks l d : Bool} {b : Bits} → Runs add off v false da rw ks (Address b false) (Wire l d) (Within true b)
   slot-low :
       {kind : Kind} {first : Bool} {v : ℕ} {da rw ks d : Bool} → Acknowledges add kind first v da rw
-      → Runs add kind v true da rw ks (Slot Pulls) (Wire false d) (Ending first v Waiting)
+      → Runs add kind v true da rw ks (Slot Pulls Other) (Wire false d) (Ending first v Waiting)
   slot-high :
       {kind : Kind} {first : Bool} {v : ℕ} {da rw ks : Bool} → Acknowledges add kind first v da rw
-      → Runs add kind v true da rw ks (Slot Pulls) (Wire true false) (Ending first v (Got false))
+      → Runs add kind v true da rw ks (Slot Pulls Other) (Wire true false) (Ending first v (Got false))
   taking :
       {v : ℕ} {da ks l d : Bool} {b : Bits} → Runs add writing v false da false ks (Data b false) (Wire l d) (Within false b)
   sent-low :
@@ -114,9 +116,9 @@ pub data Waits : Task → ℕ → Bool → Bool → Bool → Phase → Type 0 wh
   held-byte : {v : ℕ} → Waits (take-byte v) v true true false (Data none true)
   held-load : {v : ℕ} {bf da : Bool} → Waits load-byte v bf da true HeldForSending
 
--- ---- module and reader: they remember one line; SSPOV is never set; CKP tells a hold, which SSPIF has told of
+-- ---- module and reader: they remember one line; neither SSPOV nor the full match is ever set; CKP tells a hold, which SSPIF has told of
 abbrev pub flags : ℕ → Bool → Bool → Bool → Bool → Bool → Bool → Bool → Bool → Bool → Live
-flags buf bf da rw ckp sspif ackstat acktim s p = liveOf s p da rw bf false ckp ackstat acktim sspif buf
+flags buf bf da rw ckp sspif ackstat acktim s p = liveOf s p da rw bf false ckp ackstat acktim sspif false buf
 
 pub data Follows (add : ℕ) (c : Config) : Course → Module → Reader → Type 0 where
   runs :

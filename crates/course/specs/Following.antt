@@ -38,6 +38,7 @@ pub setup-answers : (add : ℕ) → AnswersAlone add (chosen add)
 setup-answers add =
     record {
       enabled = refl;
+      seven-bits = refl;
       held-after = refl;
       address-not-held = refl;
       data-not-held = refl;
@@ -141,8 +142,8 @@ looks l d a (runs addressing) rises = still addressing
 looks {add = add} l d a (runs (addressing {b = b})) falls =
     by-test (whole b)
     (λ t. by-test (own add (b .value))
-    (λ u. rw (t, a .own-alone (b .value), u, a .address-not-held) (still (slot-low (own-address u refl))))
-    (λ u. rw (t, a .own-alone (b .value), u) (still (apart (not-ours u)))))
+    (λ u. rw (t, a .own-alone (b .value), a .seven-bits, u, a .address-not-held) (still (slot-low (own-address u refl))))
+    (λ u. rw (t, a .own-alone (b .value), a .seven-bits, u) (still (apart (not-ours u)))))
     (λ t. rw t (still addressing))
 looks l d a (runs addressing) starts = to start (runs addressing)
 looks l d a (runs addressing) stops = to stop (runs (apart idle))

@@ -6,9 +6,11 @@ use mathlib.Core.Bool.{Bool, true, false, cond, _&&_, not}
 use mir.Val.{boolByte}
 use Rattle.wire.specs.Byte.{bit}
 use Rattle.mssp.specs.declared.Module.{Module}
-use Rattle.mssp.specs.Phases.{isHeldForSending}
+use Rattle.mssp.specs.Phases.{isHeldForSending, isHeldForAdd}
+use Rattle.effects.specs.Effects.{updatedPhase}
 use Rattle.registers.specs.declared.Register.{Register}
 use Rattle.registers.specs.declared.Register.the-variants.{Buf, Stat, Con1, Con2, Con3, Add, Msk, Flag, Nowhere}
+use Rattle.registers.specs.Values.{isADD}
 use Rattle.register_bytes.specs.Bytes.{byteOf}
 use Rattle.writes.specs.Writes.{con1Stored, con1Then, written, writeOf}
 use Rattle.refusals.specs.Numbers.{accepted}
@@ -43,7 +45,7 @@ module _ (v : ℕ) (m : Module) where
   stat-back : ReadsBack Stat v m
   stat-back =
       let c = m .config in let l = m .live in
-      sym (made (takes Stat) (clears Stat) v (c .smp) (c .cke) (l .da) (l .p) (l .s) (l .rw) false (l .bf))
+      sym (made (takes Stat) (clears Stat) v (c .smp) (c .cke) (l .da) (l .p) (l .s) (l .rw) (isHeldForAdd (m .phase)) (l .bf))
 
   con1-back : ReadsBack Con1 v m
   con1-back =
@@ -96,10 +98,10 @@ leaves Msk v m = refl
 leaves Flag v m = refl
 leaves Nowhere v m = refl
 
--- Only a write to CON1 moves the phase or the line.
+-- Only a write to CON1 moves the line, and only that or one to ADD the phase: ADD's ends the hold for it.
 pub leaves-place :
     (r : Register) (v : ℕ) (m : Module) → (r ≡ Con1 → ⊥)
-    → (written r v m .phase ≡ m .phase) × (written r v m .line ≡ m .line)
+    → (written r v m .phase ≡ cond (isADD r) (updatedPhase (m .phase)) (m .phase)) × (written r v m .line ≡ m .line)
 leaves-place Buf v m other = (refl, refl)
 leaves-place Stat v m other = (refl, refl)
 leaves-place Con1 v m other = absurd (other refl)

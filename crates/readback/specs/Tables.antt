@@ -13,7 +13,7 @@ use Rattle.readback.specs.Bits.{eachBit}
 
 -- What a register of a module holds.
 abbrev pub holds : Register → Module → ℕ
-holds r m = valueOf (m .config) (m .live) r
+holds r m = valueOf m r
 
 -- The bits that a write takes, as a mask.
 abbrev pub takes : Register → ℕ
@@ -51,14 +51,14 @@ abbrev pub ReadsBack : Register → ℕ → Module → Type 0
 ReadsBack r v m = holds r (written r v m) ≡ byteAfter (takes r) (clears r) (holds r m) v
 
 -- The registers that a write to one leaves alone. BUF's write may set BF in STAT or WCOL in CON1; CON1's may clear, where
--- it disables, bits of STAT and ACKTIM in CON3.
+-- it disables, bits of STAT and ACKTIM in CON3; ADD's ends UA in STAT.
 abbrev pub apart : Register → List Register
 apart Buf = Con2 ∷ Con3 ∷ Add ∷ Msk ∷ Flag ∷ []
 apart Stat = Buf ∷ Con1 ∷ Con2 ∷ Con3 ∷ Add ∷ Msk ∷ Flag ∷ []
 apart Con1 = Buf ∷ Con2 ∷ Add ∷ Msk ∷ Flag ∷ []
 apart Con2 = Buf ∷ Stat ∷ Con1 ∷ Con3 ∷ Add ∷ Msk ∷ Flag ∷ []
 apart Con3 = Buf ∷ Stat ∷ Con1 ∷ Con2 ∷ Add ∷ Msk ∷ Flag ∷ []
-apart Add = Buf ∷ Stat ∷ Con1 ∷ Con2 ∷ Con3 ∷ Msk ∷ Flag ∷ []
+apart Add = Buf ∷ Con1 ∷ Con2 ∷ Con3 ∷ Msk ∷ Flag ∷ []
 apart Msk = Buf ∷ Stat ∷ Con1 ∷ Con2 ∷ Con3 ∷ Add ∷ Flag ∷ []
 apart Flag = Buf ∷ Stat ∷ Con1 ∷ Con2 ∷ Con3 ∷ Add ∷ Msk ∷ []
 apart Nowhere = Buf ∷ Stat ∷ Con1 ∷ Con2 ∷ Con3 ∷ Add ∷ Msk ∷ Flag ∷ []

@@ -47,6 +47,9 @@ isNowhere r = eqb (registerNumber r) 8
 abbrev pub isBUF : Register → Bool
 isBUF r = eqb (registerNumber r) 0
 
+abbrev pub isADD : Register → Bool
+isADD r = eqb (registerNumber r) 5
+
 abbrev pub isMSK : Register → Bool
 isMSK r = eqb (registerNumber r) 6
 
