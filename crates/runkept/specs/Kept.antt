@@ -37,7 +37,7 @@ loaded-kept byte m v = write-kept Buf byte m refl v
 
 acknowledged-kept : (s : State) → Valid (s .mssp) → Valid (acknowledged s .mssp)
 acknowledged-kept s v =
-    record { parts = v .parts; condition = v .condition; mode = v .mode; off = v .off; mark = v .mark; eight = v .eight; hold = v .hold }
+    record { parts = v .parts; condition = v .condition; mode = v .mode; off = v .off; mark = v .mark; eight = v .eight; hold = v .hold; ten = v .ten }
 
 module _ (bytes : List ℕ) where
   serve-module : (sends da : Bool) (s : State) → Valid (s .mssp) → Valid (serve sends da s bytes .state .mssp)

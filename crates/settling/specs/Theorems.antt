@@ -8,7 +8,7 @@ use mathlib.Core.List.{List}
 use mathlib.Core.Option.{Option, none, some}
 use native.Mathlib.Omega.{arith}
 use Rattle.refusals.specs.declared.Refusal.{Refusal}
-use Rattle.refusals.specs.declared.Refusal.the-variants.{NoState, NoRegister, ReservedBit, NoMode, ModeChange, NoWindow, NoItem, PastRecord}
+use Rattle.refusals.specs.declared.Refusal.the-variants.{NoState, NoRegister, ReservedBit, NoMode, ModeChange, MaskedTenBits, NoWindow, NoItem, PastRecord}
 use Rattle.refusals.specs.declared.Verdict.{Verdict}
 use Rattle.refusals.specs.declared.Verdict.the-variants.{Done, Refused}
 use Rattle.refusals.specs.Numbers.{accepted}
@@ -77,6 +77,7 @@ module _ {S : Type 0} (decode : List ℕ → Option S) where
   refused-never-accepted ReservedBit item bytes e = absurd (omega arith)
   refused-never-accepted NoMode item bytes e = absurd (omega arith)
   refused-never-accepted ModeChange item bytes e = absurd (omega arith)
+  refused-never-accepted MaskedTenBits item bytes e = absurd (omega arith)
   refused-never-accepted NoWindow item bytes e = absurd (omega arith)
   refused-never-accepted NoItem item bytes e = absurd (omega arith)
   refused-never-accepted PastRecord item bytes e = absurd (omega arith)
