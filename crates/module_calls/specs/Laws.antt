@@ -91,15 +91,15 @@ module _ (b : List ℕ) (t : isState b ≡ true) where
 
     -- The short way: every byte stays.
     pub short-way :
-        {s : Stand} {scl sda still : Bool} {r : Answer} → s ≡ standOf (moduleFrom b) → s .line .remembered ≡ Wire scl sda
-        → still ≡ isStill (s .phase) scl sda level → still ≡ true → r ≡ done 0 → Leaves r b
+        {ph : Phase} {line : Line} {scl sda still : Bool} {r : Answer} → ph ≡ moduleFrom b .phase → line ≡ moduleFrom b .line
+        → line .remembered ≡ Wire scl sda → still ≡ isStill ph scl sda level → still ≡ true → r ≡ done 0 → Leaves r b
     unfolding parseOf
-    short-way {scl = scl} {sda = sda} e seen is same f =
+    short-way {scl = scl} {sda = sda} e k seen is same f =
         let m : Module = moduleFrom b in
-        let remembered : m .line .remembered ≡ Wire scl sda = sym (ap (λ (x : Stand). x .line .remembered) e) ∙ seen in
+        let remembered : m .line .remembered ≡ Wire scl sda = sym (ap (λ (x : Line). x .remembered) k) ∙ seen in
         let v = clauses m (and-left (valid m) (handlerValid (parseOf b .handler)) (state-valid b t)) in
         let stands = stands-if (m .line .mark) (m .live .s) (m .line .remembered) (m .phase) (v .mark) remembered in
-        let stays = sampled-still m level remembered stands (sym (is ∙ ap (λ (x : Stand). isStill (x .phase) scl sda level) e) ∙ same) in
+        let stays = sampled-still m level remembered stands (sym (is ∙ ap (λ (x : Phase). isStill x scl sda level) e) ∙ same) in
         ap₂ outcome f (sym (state-image b t) ∙ with-next m (sym stays))
 
     -- A stretch of its own: phase and line are written.

@@ -87,9 +87,8 @@ pub fn sample(state: &mut [u8], level: u32) -> Answer
     if level > 3 {
         return settling::refuse(Refusal::NoItem, 0);
     }
-    let s = module_image::stand_in(state);
-    let phase = s.phase;
-    let line = s.line;
+    let phase = module_image::phase_in(state);
+    let line = module_image::line_in(state);
     let remembered = line.remembered;
     match remembered {
         Remembered::Nothing => move_on(state, level as u8),

@@ -96,14 +96,15 @@ fn live_from(buf: u8, stat: u8, con1: u8, con2: u8, con3: u8, flag: u8, full: u8
     }
 }
 
-fn phase_in(b: &[u8]) -> Phase
+// The phase alone, and the line alone.
+pub fn phase_in(b: &[u8]) -> Phase
     requires { ⌜ moduleLength ≤ length (now b) ⌝ }
     ensures { λ r. ⌜ r ≡ moduleFrom (now (b .entry)) .phase ⌝ }
 {
     phase_image::phase_from(b[8], b[9], b[10], b[11], b[14])
 }
 
-fn line_in(b: &[u8]) -> Line
+pub fn line_in(b: &[u8]) -> Line
     requires { ⌜ moduleLength ≤ length (now b) ⌝ }
     ensures { λ r. ⌜ r ≡ moduleFrom (now (b .entry)) .line ⌝ }
 {
