@@ -1,5 +1,5 @@
 -- The words of the demands: a host's call, what it answers and leaves at the door and by the definitions, and the causes of each
--- refusal (01, "Calls, refusals and their order"; 02, 1 and 6).
+-- refusal (01, "Calls, refusals and their order"; 02, 1, 6 and 9).
 use Prim.Native.Nat.{ℕ, _+_, _/_, _%_, _^_, _<_, _≤_}
 use mathlib.Core.Logic.{_⊎_, _↔_}
 use mathlib.Core.Path.{_≡_}
@@ -9,7 +9,7 @@ use lib.Dec.{T, ltb}
 use lib.ListN.{length, getD}
 use Rattle.items.specs.First.{FirstAbove, NoneAbove}
 use Rattle.refusals.specs.declared.Refusal.{Refusal}
-use Rattle.refusals.specs.declared.Refusal.the-variants.{NoState, NoRegister, ReservedBit, NoMode, ModeChange, NoWindow, NoItem, PastRecord}
+use Rattle.refusals.specs.declared.Refusal.the-variants.{NoState, NoRegister, ReservedBit, NoMode, ModeChange, MaskedTenBits, NoWindow, NoItem, PastRecord}
 use Rattle.refusals.specs.declared.Verdict.{Verdict}
 use Rattle.refusals.specs.declared.Verdict.the-variants.{Done, Refused}
 use Rattle.refusals.specs.Numbers.{numberOf}
@@ -140,19 +140,32 @@ _when_ why holds = record { why = why; holds = holds }
 abbrev pub SetsReserved : ℕ → ℕ → Type 0
 SetsReserved number value = ((number ≡ 3) × (value / 2 % 16 ≡ 0 → ⊥)) ⊎ ((number ≡ 4) × (bit 4 value ≡ true))
 
--- CON1 (2) with SSPEN 1 and SSPM neither 0110 nor 1110.
+-- Of a value of CON1: SSPM, its low four bits, is 0111 or 1111.
+abbrev pub HasTenBits : ℕ → Type 0
+HasTenBits con1 = (con1 % 16 ≡ 0b0111) ⊎ (con1 % 16 ≡ 0b1111)
+
+-- CON1 (2) with SSPEN 1 and SSPM neither 0110 nor 1110, and not of ten bits.
 abbrev pub SetsNoMode : ℕ → ℕ → Type 0
 SetsNoMode number value =
-    (number ≡ 2) × (bit 5 value ≡ true) × (value % 16 ≡ 0b0110 → ⊥) × (value % 16 ≡ 0b1110 → ⊥)
+    (number ≡ 2) × (bit 5 value ≡ true) × (value % 16 ≡ 0b0110 → ⊥) × (value % 16 ≡ 0b1110 → ⊥) × (HasTenBits value → ⊥)
 
--- CON1 as a look shows it.
+-- CON1 and MSK as a look shows them.
 abbrev pub shownCON1 : Host → ℕ
 shownCON1 h = doorLook (h .state) .con1
+
+abbrev pub shownMSK : Host → ℕ
+shownMSK h = doorLook (h .state) .msk
 
 -- CON1 (2) with SSPEN 1 where SSPEN is 1, and another SSPM than the one that stands.
 abbrev pub ChangesMode : Host → ℕ → ℕ → Type 0
 ChangesMode h number value =
     (number ≡ 2) × (bit 5 (shownCON1 h) ≡ true) × (bit 5 value ≡ true) × (value % 16 ≡ shownCON1 h % 16 → ⊥)
+
+-- CON1 (2) with SSPEN 1 and ten bits where MSK is not FF, or MSK (6) with another value than FF while ten bits run.
+abbrev pub MasksTenBits : Host → ℕ → ℕ → Type 0
+MasksTenBits h number value =
+    ((number ≡ 2) × (bit 5 value ≡ true) × HasTenBits value × (shownMSK h ≡ 0xFF → ⊥))
+    ⊎ ((number ≡ 6) × (bit 5 (shownCON1 h) ≡ true) × HasTenBits (shownCON1 h) × (value ≡ 0xFF → ⊥))
 
 -- A window that is not inside its buffer, or whose length is not the setup's.
 abbrev pub SetUpFor : ℕ → List ℕ → Type 0
@@ -171,7 +184,8 @@ causes h (setUp add n) = (NoState when (length (h .state) ≡ imageLength → �
 causes h (readRegister number) = (NoState when ImageOfNone (h .state)) ∷ (NoRegister when 7 < number) ∷ []
 causes h (writeRegister number value) =
     (NoState when ImageOfNone (h .state)) ∷ (NoRegister when 7 < number) ∷ (ReservedBit when SetsReserved number value)
-    ∷ (NoMode when SetsNoMode number value) ∷ (ModeChange when ChangesMode h number value) ∷ []
+    ∷ (NoMode when SetsNoMode number value) ∷ (ModeChange when ChangesMode h number value)
+    ∷ (MaskedTenBits when MasksTenBits h number value) ∷ []
 causes h (feedSample level) = (NoState when ImageOfNone (h .state)) ∷ (NoItem when 3 < level) ∷ []
 causes h (callHandler start n) = (NoState when ImageOfNone (h .state)) ∷ (NoWindow when FitsNot h start n) ∷ []
 causes h (runTrace start n items) =

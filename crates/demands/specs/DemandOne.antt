@@ -17,15 +17,16 @@ use Rattle.refusals.specs.declared.Refusal.the-variants.{NoState, NoWindow, NoI
 use Rattle.refusals.specs.declared.Verdict.{Verdict}
 use Rattle.refusals.specs.Numbers.{numberOf, firstCause}
 use Rattle.wire.specs.Byte.{bit}
-use Rattle.mssp.specs.Module.{modelled, setup}
+use Rattle.mssp.specs.Module.{modelled, tenBits, isTenBit, setup}
+use Rattle.mssp.specs.Valid.{masksNone}
 use Rattle.address.specs.declared.Hit.{Hit}
 use Rattle.address.specs.Comparison.{hitNumber, hitOf}
 use Rattle.register_bytes.specs.Bytes.{byteOf, sspmOf}
 use Rattle.register_bytes.specs.Bits.{small, half-back}
 use Rattle.registers.specs.declared.Register.{Register}
 use Rattle.registers.specs.declared.Register.the-variants.{Buf, Stat, Con1, Con2, Con3, Add, Msk, Flag, Nowhere}
-use Rattle.registers.specs.Values.{registerOf, registerNumber, isNowhere, isCON1, isCON2, isCON3, valueOf}
-use Rattle.writes.specs.Writes.{setsReserved, noMode, modeChange}
+use Rattle.registers.specs.Values.{registerOf, registerNumber, isNowhere, isMSK, isCON1, isCON2, isCON3, valueOf}
+use Rattle.writes.specs.Writes.{setsReserved, noMode, modeChange, masked, maskedTen}
 use Rattle.firmware.specs.declared.State.{State}
 use Rattle.firmware.specs.declared.Made.the-variants.{Ready, NotMade}
 use Rattle.firmware.specs.Handler.{longestWindow, isWindowLength, Served, served, stateOf, handlerOf}
@@ -57,9 +58,9 @@ use Rattle.module_calls.specs.Calls.{levelVerdict, doorHit}
 use Rattle.module_calls.specs.Theorems.{read-keeps, write-keeps, sample-keeps}
 use Rattle.door.specs.declared.Part.{Part as Parted}
 use Rattle.door.specs.Door.{doorFind}
-use Rattle.demands.specs.Calls.{DoorCall, setUp, readRegister, writeRegister, feedSample, callHandler, runTrace, Host, host, reply, atDoor, told, inWindow, hasWindow, byDefinition, ImageOf, ImageOfNone, SetsReserved, SetsNoMode, ChangesMode, SetUpFor, FitsNot, SomeAbove, Cause, _when_, causes, lookCauses, findCauses, Numbered, OnlyBeside, Beside}
+use Rattle.demands.specs.Calls.{DoorCall, setUp, readRegister, writeRegister, feedSample, callHandler, runTrace, Host, host, reply, atDoor, told, inWindow, hasWindow, byDefinition, ImageOf, ImageOfNone, shownCON1, SetsReserved, HasTenBits, SetsNoMode, ChangesMode, MasksTenBits, SetUpFor, FitsNot, SomeAbove, Cause, _when_, causes, lookCauses, findCauses, Numbered, OnlyBeside, Beside}
 use Rattle.demands.specs.Demands.{OneOutcome, RefusedKeeps, OutsideKept, ExactCauses, ItemBeside, DemandOne}
-use Rattle.demands.specs.DemandTwo.{image-or-none, by-image, shown-is}
+use Rattle.demands.specs.DemandTwo.{image-or-none, by-image, look-is, shown-is}
 
 pub one-reply : OneOutcome
 one-reply before c r t a b e f = let one = one-lent e f in (one .0, ap₂ host (one .1) (one .2))
@@ -211,16 +212,44 @@ fits-not h start n s image = (
 -- SSPM is four bits, and the number that they make.
 half-other :
     (b3 b2 b1 b0 : Bool) → let half : ℕ = byteOf false false false false b3 b2 b1 b0 in
-    (not (modelled b3 b2 b1 b0) ≡ true) ↔ ((half ≡ 6 → ⊥) × (half ≡ 14 → ⊥))
+    (not (modelled b2 b1) ≡ true) ↔ ((half ≡ 6 → ⊥) × (half ≡ 14 → ⊥) × ((half ≡ 7) ⊎ (half ≡ 15) → ⊥))
+half-other true true true true = (λ t. never t, λ k. absurd (k .2 (inr refl)))
 half-other true true true false = (λ t. never t, λ k. absurd (k .1 refl))
+half-other false true true true = (λ t. never t, λ k. absurd (k .2 (inl refl)))
 half-other false true true false = (λ t. never t, λ k. absurd (k .0 refl))
-half-other b3 true true true = (λ t. (λ e. omega arith, λ e. omega arith), λ k. refl)
-half-other b3 true false b0 = (λ t. (λ e. omega (arith, small b0), λ e. omega (arith, small b0)), λ k. refl)
-half-other b3 false b1 b0 =
-    (λ t. (λ e. omega (arith, small b1, small b0), λ e. omega (arith, small b1, small b0)), λ k. refl)
+half-other b3 true false b0 =
+    (λ t. (λ e. omega (arith, small b0), λ e. omega (arith, small b0), ⊎-elim (λ e. omega (arith, small b0)) (λ e. omega (arith, small b0))), λ k. refl)
+half-other b3 false b1 b0 = (
+  λ t. (
+    λ e. omega (arith, small b1, small b0),
+    λ e. omega (arith, small b1, small b0),
+    ⊎-elim (λ e. omega (arith, small b1, small b0)) (λ e. omega (arith, small b1, small b0)),
+  ),
+  λ k. refl,
+)
 
-other-mode : (v : ℕ) → (not (modelled (bit 3 v) (bit 2 v) (bit 1 v) (bit 0 v)) ≡ true) ↔ ((v % 16 ≡ 6 → ⊥) × (v % 16 ≡ 14 → ⊥))
+other-mode :
+    (v : ℕ) → (not (modelled (bit 2 v) (bit 1 v)) ≡ true) ↔ ((v % 16 ≡ 6 → ⊥) × (v % 16 ≡ 14 → ⊥) × (HasTenBits v → ⊥))
 other-mode v = rw (half-back v) at (half-other (bit 3 v) (bit 2 v) (bit 1 v) (bit 0 v))
+
+half-ten :
+    (b3 b2 b1 b0 : Bool) → let half : ℕ = byteOf false false false false b3 b2 b1 b0 in
+    (tenBits b2 b1 b0 ≡ true) ↔ ((half ≡ 7) ⊎ (half ≡ 15))
+half-ten true true true true = (λ t. inr refl, λ k. refl)
+half-ten false true true true = (λ t. inl refl, λ k. refl)
+half-ten b3 true true false = (λ t. never t, ⊎-elim (λ e. absurd (omega (arith, small b3))) (λ e. absurd (omega (arith, small b3))))
+half-ten b3 true false b0 = (λ t. never t, ⊎-elim (λ e. absurd (omega (arith, small b0))) (λ e. absurd (omega (arith, small b0))))
+half-ten b3 false b1 b0 =
+    (λ t. never t, ⊎-elim (λ e. absurd (omega (arith, small b1, small b0))) (λ e. absurd (omega (arith, small b1, small b0))))
+
+ten-bits : (v : ℕ) → (tenBits (bit 2 v) (bit 1 v) (bit 0 v) ≡ true) ↔ HasTenBits v
+ten-bits v = rw (half-back v) at (half-ten (bit 3 v) (bit 2 v) (bit 1 v) (bit 0 v))
+
+-- The mode of a state has ten bits where look shows it.
+pub shown-ten : (s : State) (h : Host) → ImageOf s (h .state) → (isTenBit (s .mssp .config) ≡ true) ↔ HasTenBits (shownCON1 h)
+shown-ten s h image =
+    let c = s .mssp .config in
+    rw (shown-is s h image .1) (half-ten (c .sspm3) (c .sspm2) (c .sspm1) (c .sspm0))
 
 -- ---- a register by its number
 -- What holds of each register with its number, and of every number above 7.
@@ -272,9 +301,9 @@ module _ (number v : ℕ) where
 
   no-mode : (isCON1 r && noMode v ≡ true) ↔ SetsNoMode number v
   no-mode =
-      let on = both (bit 5 v) (not (modelled (bit 3 v) (bit 2 v) (bit 1 v) (bit 0 v))) (is-one (bit 5 v)) (other-mode v) in
+      let on = both (bit 5 v) (not (modelled (bit 2 v) (bit 1 v))) (is-one (bit 5 v)) (other-mode v) in
       let all = both (isCON1 r) (noMode v) con1 on in
-      (λ t. let k = all .0 t in (k .0, k .1 .0, k .1 .1 .0, k .1 .1 .1), λ k. all .1 (k .0, (k .1, (k .2, k .3))))
+      (λ t. let k = all .0 t in (k .0, k .1 .0, k .1 .1 .0, k .1 .1 .1, k .1 .1 .2), λ k. all .1 (k .0, (k .1, (k .2, k .3, k .4))))
 
   mode-change :
       (h : Host) (s : State) → ImageOf s (h .state)
@@ -286,6 +315,24 @@ module _ (number v : ℕ) where
       let all = both (isCON1 r) (modeChange (c .sspen) (sspmOf c) v) con1 other in
       rw (shown-is s h image .0, shown-is s h image .1)
       (λ t. let k = all .0 t in (k .0, k .1 .0 .0, k .1 .0 .1, k .1 .1), λ k. all .1 (k .0, ((k .1, k .2), k .3)))
+
+  masked-ten :
+      (h : Host) (s : State) → ImageOf s (h .state) → (maskedTen r v (s .mssp .config) ≡ true) ↔ MasksTenBits h number v
+  masked-ten h s image =
+      let c = s .mssp .config in
+      let six = register-is 6 number (omega arith) in
+      let runs = both _ (not (masksNone v)) (both (c .sspen) (isTenBit c) (is-one (c .sspen)) (shown-ten s h image)) (not-equal v 255) in
+      let ten : Bool = tenBits (bit 2 v) (bit 1 v) (bit 0 v) in
+      let mask : ℕ = c .msk in
+      let enables = both _ (not (masksNone mask)) (both (bit 5 v) ten (is-one (bit 5 v)) (ten-bits v)) (not-equal mask 255) in
+      let by-con1 = both (isCON1 r) (masked (bit 5 v) ten mask) con1 enables in
+      rw (shown-is s h image .0, ap (λ (shown : View). shown .msk) (look-is s h image)) (
+        λ t.
+            by-test (isMSK r) (λ e. let k = runs .0 (rw e at t) in inr (six .0 e, k .0 .0, k .0 .1, k .1))
+            (λ e. let k = by-con1 .0 (rw e at t) in inl (k .0, k .1 .0 .0, k .1 .0 .1, k .1 .1)),
+        ⊎-elim (λ k. by-test (isMSK r) (λ e. absurd (omega (arith, six .0 e, k .0))) (λ e. rw e (by-con1 .1 (k .0, ((k .1, k .2), k .3)))))
+            (λ k. rw (six .1 (k .0)) (runs .1 ((k .1, k .2), k .3))),
+      )
 
 -- ---- what each call looks at
 above-looks :
@@ -336,12 +383,13 @@ module _ (h : Host) where
   looked (readRegister number) =
       on-image (readRegister number) (λ e. rw e)
       (λ s image.
-      by-tests (valueOf (s .mssp .config) (s .mssp .live) (registerOf number)) (one (nowhere number) all))
+      by-tests (valueOf (s .mssp) (registerOf number)) (one (nowhere number) all))
   looked (writeRegister number value) =
       on-image (writeRegister number value) (λ e. rw e)
       (λ s image.
       by-tests 0
-      (one (nowhere number) (one (reserved number value) (one (no-mode number value) (one (mode-change number value h s image) all)))))
+      (one (nowhere number) (one (reserved number value) (one (no-mode number value) (one (mode-change number value h s image)
+      (one (masked-ten number value h s image) all))))))
   looked (feedSample level) =
       on-image (feedSample level) (λ e. rw e)
       (λ s image.

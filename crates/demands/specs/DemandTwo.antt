@@ -153,7 +153,7 @@ module _ (w : Served) where
     one-call (setUp add n) = rw (eq-eqb (length bytes) imageLength (encode-length s)) (made (setupOf add n))
     one-call (readRegister number) =
         let r = registerOf number in
-        accesses (λ m. readOf m number) (read-refused r (valueOf (s .mssp .config) (s .mssp .live) r) (s .mssp))
+        accesses (λ m. readOf m number) (read-refused r (valueOf (s .mssp) r) (s .mssp))
     one-call (writeRegister number value) = accesses (λ m. writeOf m number value) (refused-leaves number value (s .mssp))
     one-call (feedSample level) =
         ap (unlent (w .bytes)) (on-state (noState bytes) (λ t. settled (levelVerdict level) 0 (encodeOf (sampledBy t level)) bytes) s v)

@@ -25,7 +25,7 @@ use Rattle.settling.specs.Outcome.{done}
 use Rattle.module_calls.specs.Calls.{doorLook, doorHit}
 use Rattle.door.specs.declared.Part.{Part}
 use Rattle.door.specs.Door.{doorFind}
-use Rattle.demands.specs.Calls.{DoorCall, setUp, readRegister, feedSample, callHandler, runTrace, Host, answers, leftAfter, Allows, atDoor, byDefinition, ImageOf, shownCON1, causes, lookCauses, findCauses, Exactly, OnlyBeside, Beside, StaysEnabled, Fits, TakenAsSaid, AllItems, Feeds, ShowsNoneRefused, firmware}
+use Rattle.demands.specs.Calls.{DoorCall, setUp, readRegister, feedSample, callHandler, runTrace, Host, answers, leftAfter, Allows, atDoor, byDefinition, ImageOf, shownCON1, HasTenBits, causes, lookCauses, findCauses, Exactly, OnlyBeside, Beside, StaysEnabled, Fits, TakenAsSaid, AllItems, Feeds, ShowsNoneRefused, firmware}
 
 -- ---- DEMAND 1: every call has one outcome, changes only what it may, and refuses by number, exactly for the causes of the table
 -- Only one answer fits a call's contract, with one state and one buffer. (What look, hit and find answer is an equation as it
@@ -125,23 +125,26 @@ ModeStays =
     (h : Host) (calls : List DoorCall) → StaysEnabled h calls → shownCON1 (leftAfter atDoor h calls) % 16 ≡ shownCON1 h % 16
 
 -- ---- which address hit: by the registers that look shows, hit says own exactly where the byte fits ADD under MSK, and general call
--- exactly for 00 where GCEN, bit 7 of CON2, is 1 and 00 does not fit; else it says none
+-- exactly for 00 where GCEN, bit 7 of CON2, is 1 and 00 does not fit; in a ten-bit mode own exactly where bits 7 to 1 are ADD's,
+-- and never general call; else it says none
 abbrev pub HitSays : Type 0
 HitSays =
     (h : Host) (byte : ℕ) → doorHit (h .state) byte .refusal ≡ 0
     → let shown : View = doorLook (h .state) in
     let says : ℕ = doorHit (h .state) byte .value in
-    ((says ≡ hitNumber Own) ↔ Fits (shown .add) (shown .msk) byte)
-    × ((says ≡ hitNumber GeneralCall) ↔ ((byte ≡ 0) × (bit 7 (shown .con2) ≡ true) × (Fits (shown .add) (shown .msk) 0 → ⊥)))
+    ((HasTenBits (shown .con1) → ⊥)
+    → ((says ≡ hitNumber Own) ↔ Fits (shown .add) (shown .msk) byte)
+    × ((says ≡ hitNumber GeneralCall) ↔ ((byte ≡ 0) × (bit 7 (shown .con2) ≡ true) × (Fits (shown .add) (shown .msk) 0 → ⊥))))
+    × (HasTenBits (shown .con1) → ((says ≡ hitNumber Own) ↔ Fits (shown .add) 0xFF byte) × (says ≡ hitNumber GeneralCall → ⊥))
     × ((says ≡ hitNumber None) ⊎ (says ≡ hitNumber Own) ⊎ (says ≡ hitNumber GeneralCall))
 
--- ---- the module takes an address exactly where that says own or general call: where look shows an address (phase 1) of eight
--- bits, at the sample with SCL low
+-- ---- the module takes an address exactly where that says own or general call: where look shows a first byte (phase 1, which 0) of
+-- eight bits, at the sample with SCL low; in a ten-bit mode with R/W 1 after the full match alone
 abbrev pub TakesWhatHits : Type 0
 TakesWhatHits =
     (h : Host) (level : ℕ) → level ≤ 1
     → let shown : View = doorLook (h .state) in
-    shown .phase ≡ 1 → shown .bits ≡ 8
+    shown .phase ≡ 1 → shown .bits ≡ 8 → shown .which ≡ 0 → (HasTenBits (shown .con1) → bit 0 (shown .byte) ≡ true → shown .full ≡ 1)
     → TakenAsSaid (doorLook (atDoor h (feedSample level) .left .state) .phase) (doorHit (h .state) (shown .byte) .value)
 
 -- ---- after an accepted setup look shows, and reads give, CON1 36, CON2 01, CON3 00, MSK FF (hex) and ADD; the rest is as fresh
@@ -170,6 +173,9 @@ SetupRegisters =
       due = 0;
       n = n;
       pointer = 0;
+      which = 0;
+      next = 0;
+      full = 0;
     })
     × (answers atDoor after (map readRegister (0 ∷ 1 ∷ 2 ∷ 3 ∷ 4 ∷ 5 ∷ 6 ∷ 7 ∷ []))
     ≡ map done (0 ∷ 0 ∷ 0x36 ∷ 0x01 ∷ 0x00 ∷ add ∷ 0xFF ∷ 0 ∷ []))

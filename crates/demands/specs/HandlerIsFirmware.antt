@@ -11,8 +11,9 @@ use borrow.Author.Tests.{eq-eqb}
 use Rattle.truth.specs.Tests.{and-left}
 use Rattle.wire.specs.Byte.{bit}
 use Rattle.mssp.specs.declared.Module.{Module}
-use Rattle.mssp.specs.Module.{modelled}
-use Rattle.mssp.specs.Valid.{modeFits, valid}
+use Rattle.mssp.specs.Module.{modelled, isTenBit}
+use Rattle.mssp.specs.Phases.{isHeldForAdd}
+use Rattle.mssp.specs.Valid.{masksNone, modeFits, valid}
 use Rattle.mssp.specs.Laws.{clauses}
 use Rattle.effects.specs.Effects.{emptied, loaded, released}
 use Rattle.register_bytes.specs.Bytes.{byteOf, sspmOf}
@@ -48,10 +49,12 @@ not-both : (b : Bool) → b && not b ≡ false
 not-both true = refl
 not-both false = refl
 
-mode-ours : (on ours : Bool) → T (not on || ours) → on && not ours ≡ false
-mode-ours true true t = refl
-mode-ours true false t = absurd t
-mode-ours false ours t = refl
+mode-ours : (on ours ten none : Bool) → T (not on || ours && (not ten || none)) → (on && not ours ≡ false) × (on && ten && not none ≡ false)
+mode-ours false ours ten none t = (refl, refl)
+mode-ours true false ten none t = absurd t
+mode-ours true true false none t = (refl, refl)
+mode-ours true true true true t = (refl, refl)
+mode-ours true true true false t = absurd t
 
 unchanged : (on : Bool) (mode v : ℕ) → v % 16 ≡ mode → modeChange on mode v ≡ false
 unchanged on mode v e = rw (modeChange, eq-eqb (v % 16) mode e, and-false (on && bit 5 v))
@@ -63,7 +66,8 @@ con1-written :
 con1-written m v mode k =
     let c = m .config in
     let same : v % 16 ≡ sspmOf c = sym (half-back v) ∙ rw (k .is3, k .is2, k .is1, k .is0) in
-    rw (unchanged (c .sspen) (sspmOf c) v same, k .is7, k .is6, k .is5, k .is4, k .is3, k .is2, k .is1, k .is0, mode-ours (c .sspen) (modelled (c .sspm3) (c .sspm2) (c .sspm1) (c .sspm0)) mode, not-both (c .sspen), both-same (c .wcol), both-same (m .live .sspov))
+    let ours = mode-ours (c .sspen) (modelled (c .sspm2) (c .sspm1)) (isTenBit c) (masksNone (c .msk)) mode in
+    rw (unchanged (c .sspen) (sspmOf c) v same, k .is7, k .is6, k .is5, k .is4, k .is3, k .is2, k .is1, k .is0, ours .0, ours .1, not-both (c .sspen), both-same (c .wcol), both-same (m .live .sspov))
 
 ckp-set : (m : Module) → T (modeFits (m .config)) → settingCKP m ≡ released m
 ckp-set m mode =
@@ -112,7 +116,7 @@ module _ (s : State) (window : List ℕ) (mode : T (modeFits (s .mssp .config)))
   firmware-is =
       let c = s .mssp .config in let l = s .mssp .live in
       let con1 = bits-back (c .wcol) (l .sspov) (c .sspen) (l .ckp) (c .sspm3) (c .sspm2) (c .sspm1) (c .sspm0) in
-      let stat = bits-back (c .smp) (c .cke) (l .da) (l .p) (l .s) (l .rw) false (l .bf) in
+      let stat = bits-back (c .smp) (c .cke) (l .da) (l .p) (l .s) (l .rw) (isHeldForAdd (s .mssp .phase)) (l .bf) in
       ap (λ (b : Bool). firmwareIf b (bit 4 (shows 2 (s .mssp))) (bit 2 (shows 1 (s .mssp))) (bit 5 (shows 1 (s .mssp))) byte (s .mssp)) (flag-bit (l .sspif))
       ∙ ap (λ (b : Bool). firmwareIf (l .sspif) b (bit 2 (shows 1 (s .mssp))) (bit 5 (shows 1 (s .mssp))) byte (s .mssp)) (con1 .is4)
       ∙ ap₂ (λ (a b : Bool). firmwareIf (l .sspif) (l .ckp) a b byte (s .mssp)) (stat .is2) (stat .is5)

@@ -5,4 +5,5 @@ pub mod DemandOne
 pub mod DemandThree
 pub mod HandlerIsFirmware
 pub mod ModeStays
+pub mod Falls
 pub mod WhichAddress

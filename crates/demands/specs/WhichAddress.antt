@@ -1,42 +1,39 @@
 -- Which address hit (02, 1): what hit says, by the registers that look shows; and the module takes an address just as it says.
-use Prim.Native.Nat.{ℕ, _/_, _%_, _^_, _≤_}
+use Prim.Native.Nat.{ℕ, _/_, _%_, _^_}
 use mathlib.Core.Logic.{_⊎_, inl, inr, ⊎-elim, _↔_}
-use mathlib.Core.Path.{_≡_, refl, sym, ap, _∙_}
-use mathlib.Core.Bool.{Bool, true, false, true≢false, _&&_, and-false}
-use mathlib.Core.List.{[], _∷_}
+use mathlib.Core.Path.{_≡_, refl, sym, ap, subst, _∙_}
+use mathlib.Core.Bool.{Bool, true, false, true≢false, _&&_}
 use native.Mathlib.Omega.{arith}
-use lib.Dec.{T, eqb}
-use borrow.Author.Tests.{eqb-true, eqb-false, eq-eqb, ne-eqb, lt-ltb}
-use Rattle.truth.specs.Tests.{by-test, and-left}
-use Rattle.wire.specs.declared.Remembered.{Remembered}
-use Rattle.wire.specs.declared.Remembered.the-variants.{Nothing, Wire}
+use mir.Val.{boolByte}
+use lib.Dec.{eqb}
+use borrow.Author.Tests.{eqb-true, eqb-false, eq-eqb}
+use Rattle.truth.specs.Tests.{by-test, never}
 use Rattle.wire.specs.Byte.{bit}
-use Rattle.wire.specs.Wire.{sdaOf, onWire, edgeFrom}
 use Rattle.mssp.specs.declared.Config.{Config}
 use Rattle.mssp.specs.declared.Live.{Live}
+use Rattle.mssp.specs.declared.Which.{Which}
+use Rattle.mssp.specs.declared.Which.the-variants.{Other, High, HighToSend}
 use Rattle.mssp.specs.declared.Phase.{Phase}
-use Rattle.mssp.specs.declared.Phase.the-variants.{Quiet, Address, Data, HeldBefore, Slot, HeldForSending, Sending, MasterAcknowledge}
-use Rattle.mssp.specs.declared.Module.{Module}
-use Rattle.mssp.specs.Module.{setDA, setRW}
-use Rattle.mssp.specs.Phases.{phaseNumber, bitsOf}
-use Rattle.mssp.specs.Drivers.{sdaPulled}
-use Rattle.mssp.specs.Valid.{offFits, eightFit, valid}
-use Rattle.mssp.specs.Laws.{clauses}
+use Rattle.mssp.specs.Module.{isTenBit, setDA, setRW, setFull}
+use Rattle.mssp.specs.Phases.{phaseNumber, bitsOf, phaseWhich}
 use Rattle.address.specs.declared.Hit.{Hit}
 use Rattle.address.specs.declared.Hit.the-variants.{None, Own, GeneralCall}
 use Rattle.address.specs.Comparison.{hitNumber, agrees, fitting, hitOf, isTaken}
 use Rattle.address.specs.Theorems.{own-said, general-said}
-use Rattle.sampling.specs.Rules.{intake, addressIf, edgeStep, seenIf}
+use Rattle.sampling.specs.declared.Moved.{Moved}
+use Rattle.sampling.specs.Rules.{intake, highIf, firstIf, addressByte}
+use Rattle.register_bytes.specs.Bytes.{con1Of}
 use Rattle.register_bytes.specs.Bits.{bits-back}
-use Rattle.firmware.specs.Handler.{Served, served}
-use Rattle.image.specs.HandlerPart.{handlerValid}
 use Rattle.view.specs.declared.View.{View}
+use Rattle.view.specs.View.{whichSeen}
+use Rattle.settling.specs.declared.Answer.{Answer}
 use Rattle.settling.specs.Outcome.{byState}
 use Rattle.module_calls.specs.Calls.{doorLook, doorHit}
-use Rattle.demands.specs.Calls.{feedSample, byDefinition, AgreesIn, Fits, TakenAsSaid}
+use Rattle.demands.specs.Calls.{shownCON1, HasTenBits, AgreesIn, Fits, TakenAsSaid}
 use Rattle.demands.specs.Demands.{HitSays, TakesWhatHits}
-use Rattle.demands.specs.DemandTwo.{look-is, hit-is, image-or-none, demand-two}
-use Rattle.demands.specs.DemandOne.{both, is-one, equal}
+use Rattle.demands.specs.DemandTwo.{look-is, hit-is, image-or-none}
+use Rattle.demands.specs.DemandOne.{both, is-one, equal, shown-ten}
+use Rattle.demands.specs.Falls.{sample-lowers, eighth-falls}
 
 -- ---- a byte fits
 agrees-in : (i add msk byte : ℕ) → (agrees i add msk byte ≡ true) ↔ AgreesIn i add msk byte
@@ -55,28 +52,39 @@ fits-exactly add msk byte =
     )
 
 -- ---- what hit says
-says :
-    (c : Config) (byte : ℕ) → let said : ℕ = hitNumber (hitOf c byte) in
-    ((said ≡ hitNumber Own) ↔ Fits (c .add) (c .msk) byte)
-    × ((said ≡ hitNumber GeneralCall) ↔ ((byte ≡ 0) × (c .gcen ≡ true) × (Fits (c .add) (c .msk) 0 → ⊥)))
-    × ((said ≡ hitNumber None) ⊎ (said ≡ hitNumber Own) ⊎ (said ≡ hitNumber GeneralCall))
-says c byte =
-    let fits = fits-exactly (c .add) (c .msk) byte in
-    let own = own-said (fitting (c .add) (c .msk) byte) (c .gcen && eqb byte 0) in
-    let general = general-said (fitting (c .add) (c .msk) byte) (c .gcen && eqb byte 0) in
-    let call = both (c .gcen) (eqb byte 0) (is-one (c .gcen)) (equal byte 0) in (
-      (λ e. fits .0 (own .0 e), λ f. own .1 (fits .1 f)),
-      (
-        λ e. let k = general .0 e in let g = call .0 (k .1) in (g .1, g .0, λ f. true≢false (sym (fits .1 (rw (g .1) f)) ∙ k .0)),
-        λ k. general .1 (by-test (fitting (c .add) (c .msk) byte) (λ t. absurd (k .2 (rw (k .0) at (fits .0 t)))) (λ t. t), call .1 (k .1, k .0)),
-      ),
-      one-of (hitOf c byte),
-    )
-  where
-    one-of : (hit : Hit) → (hitNumber hit ≡ 0) ⊎ (hitNumber hit ≡ 1) ⊎ (hitNumber hit ≡ 2)
-    one-of None = inl refl
-    one-of Own = inr (inl refl)
-    one-of GeneralCall = inr (inr refl)
+module _ (c : Config) (byte : ℕ) where
+  abbrev said : ℕ
+  said = hitNumber (hitOf c byte)
+
+  says-seven :
+      isTenBit c ≡ false → ((said ≡ hitNumber Own) ↔ Fits (c .add) (c .msk) byte)
+      × ((said ≡ hitNumber GeneralCall) ↔ ((byte ≡ 0) × (c .gcen ≡ true) × (Fits (c .add) (c .msk) 0 → ⊥)))
+  says-seven seven =
+      let fits = fits-exactly (c .add) (c .msk) byte in
+      let own = own-said (fitting (c .add) (c .msk) byte) (c .gcen && eqb byte 0) in
+      let general = general-said (fitting (c .add) (c .msk) byte) (c .gcen && eqb byte 0) in
+      let call = both (c .gcen) (eqb byte 0) (is-one (c .gcen)) (equal byte 0) in
+      rw seven (
+        (λ e. fits .0 (own .0 e), λ f. own .1 (fits .1 f)),
+        (
+          λ e. let k = general .0 e in let g = call .0 (k .1) in (g .1, g .0, λ f. true≢false (sym (fits .1 (rw (g .1) f)) ∙ k .0)),
+          λ k. general .1 (by-test (fitting (c .add) (c .msk) byte) (λ t. absurd (k .2 (rw (k .0) at (fits .0 t)))) (λ t. t), call .1 (k .1, k .0)),
+        ),
+      )
+
+  says-ten : isTenBit c ≡ true → ((said ≡ hitNumber Own) ↔ Fits (c .add) 255 byte) × (said ≡ hitNumber GeneralCall → ⊥)
+  says-ten ten =
+      let fits = fits-exactly (c .add) 255 byte in
+      let own = own-said (fitting (c .add) 255 byte) false in
+      rw ten (
+        (λ e. fits .0 (own .0 e), λ f. own .1 (fits .1 f)),
+        λ e. true≢false (sym (general-said (fitting (c .add) 255 byte) false .0 e .1)),
+      )
+
+one-of : (hit : Hit) → (hitNumber hit ≡ 0) ⊎ (hitNumber hit ≡ 1) ⊎ (hitNumber hit ≡ 2)
+one-of None = inl refl
+one-of Own = inr (inl refl)
+one-of GeneralCall = inr (inr refl)
 
 pub hit-says : HitSays
 unfolding byState
@@ -85,64 +93,67 @@ hit-says h byte accepted =
     (λ k.
     let s = k .0 in let c = s .mssp .config in let l = s .mssp .live in
     let gcen = bits-back (c .gcen) (l .ackstat) (c .ackdt) false false false false (c .sen) .is7 in
-    rw (look-is s h (k .2), hit-is s h (k .2) byte, gcen) (says c byte))
+    let shown = shown-ten s h (k .2) in
+    let is : shownCON1 h ≡ con1Of c l = ap (λ (v : View). v .con1) (look-is s h (k .2)) in
+    rw (look-is s h (k .2), hit-is s h (k .2) byte, gcen) (
+      λ no. says-seven c byte (by-test (isTenBit c) (λ t. absurd (no (subst HasTenBits is (shown .0 t)))) (λ t. t)),
+      λ ten. says-ten c byte (shown .1 (subst HasTenBits (sym is) ten)),
+      one-of (hitOf c byte),
+    ))
     (image-or-none (h .state))
 
 -- ---- what the module takes
+which-is : (ph : Phase) → phaseNumber ph ≡ 1 → phaseWhich ph ≡ whichSeen ph
+which-is ph number = rw number refl
+
+is-true : (b : Bool) → boolByte b ≡ 1 → b ≡ true
+is-true true e = refl
+is-true false e = absurd (omega arith)
+
 intake-follows :
-    (c : Config) (l : Live) (byte : ℕ) (hold : Bool) → let after : ℕ = phaseNumber (intake c l byte hold .phase) in (after ≡ 3) ⊎ (after ≡ 4)
-intake-follows c l byte true = inl refl
-intake-follows c l byte false = inr refl
+    (c : Config) (l : Live) (byte : ℕ) (hold : Bool) (which : Which) → let after : ℕ = phaseNumber (intake c l byte hold which .phase) in
+    (after ≡ 3) ⊎ (after ≡ 4)
+intake-follows c l byte true which = inl refl
+intake-follows c l byte false which = inr refl
 
-address-taken :
-    (hit : Hit) (c : Config) (l : Live) (byte : ℕ) → TakenAsSaid (phaseNumber (addressIf (isTaken hit) c l byte .phase)) (hitNumber hit)
-address-taken None c l byte = inl (refl, refl)
-address-taken Own c l byte = inr (intake-follows c (setDA false (setRW (bit 0 byte) l)) byte (c .ahen), inl refl)
-address-taken GeneralCall c l byte = inr (intake-follows c (setDA false (setRW (bit 0 byte) l)) byte (c .ahen), inr refl)
+-- A high byte that is taken, with R/W 0 or after the full match.
+high-follows :
+    (sends full : Bool) (c : Config) (l : Live) (byte : ℕ) → (sends ≡ true → full ≡ true)
+    → let after : ℕ = phaseNumber (highIf true sends full c l byte .phase) in (after ≡ 3) ⊎ (after ≡ 4)
+high-follows false full c l byte known = intake-follows c (setDA false (setRW false (setFull false l))) byte (c .ahen) High
+high-follows true true c l byte known = intake-follows c (setDA false (setRW true l)) byte (c .ahen) HighToSend
+high-follows true false c l byte known = never (known refl)
 
--- In an address of eight bits SCL was high, so a low one is its eighth fall.
-fall-taken :
-    (c : Config) (l : Live) (ph : Phase) (mark : Bool) (seen : Remembered) (sda : Bool) → phaseNumber ph ≡ 1 → bitsOf ph .count ≡ 8
-    → T (eightFit ph seen)
-    → TakenAsSaid (phaseNumber (edgeStep c l ph (edgeFrom mark seen false sda) .phase)) (hitNumber (hitOf c (bitsOf ph .value)))
-fall-taken c l (Address bits) mark (Wire true before) sda p e k = rw e (address-taken (hitOf c (bits .value)) c l (bits .value))
-fall-taken c l (Address bits) mark (Wire false before) sda p e k = absurd (rw e at k)
-fall-taken c l (Address bits) mark Nothing sda p e k = absurd (rw e at k)
-fall-taken c l Quiet mark seen sda p e k = absurd (omega arith)
-fall-taken c l (Data bits held) mark seen sda p e k = absurd (omega arith)
-fall-taken c l (HeldBefore refused) mark seen sda p e k = absurd (omega arith)
-fall-taken c l (Slot slot) mark seen sda p e k = absurd (omega arith)
-fall-taken c l HeldForSending mark seen sda p e k = absurd (omega arith)
-fall-taken c l (Sending byte place) mark seen sda p e k = absurd (omega arith)
-fall-taken c l MasterAcknowledge mark seen sda p e k = absurd (omega arith)
+first-taken :
+    (ten : Bool) (hit : Hit) (c : Config) (l : Live) (byte : ℕ) → (ten ≡ true → bit 0 byte ≡ true → l .full ≡ true)
+    → TakenAsSaid (phaseNumber (firstIf ten (isTaken hit) c l byte .phase)) (hitNumber hit)
+first-taken true None c l byte known = inl (refl, refl)
+first-taken true Own c l byte known = inr (high-follows (bit 0 byte) (l .full) c l byte (known refl), inl refl)
+first-taken true GeneralCall c l byte known = inr (high-follows (bit 0 byte) (l .full) c l byte (known refl), inr refl)
+first-taken false None c l byte known = inl (refl, refl)
+first-taken false Own c l byte known = inr (intake-follows c (setDA false (setRW (bit 0 byte) l)) byte (c .ahen) Other, inl refl)
+first-taken false GeneralCall c l byte known = inr (intake-follows c (setDA false (setRW (bit 0 byte) l)) byte (c .ahen) Other, inr refl)
 
--- A module that is not quiet is enabled.
-seen-taken :
-    (on : Bool) (m : Module) (sda : Bool) → phaseNumber (m .phase) ≡ 1 → bitsOf (m .phase) .count ≡ 8
-    → T (offFits on (m .phase) (m .line .mark)) → T (eightFit (m .phase) (m .line .remembered))
-    → TakenAsSaid (phaseNumber (seenIf on m false sda .phase)) (hitNumber (hitOf (m .config) (bitsOf (m .phase) .value)))
-seen-taken true m sda p e off eight = fall-taken (m .config) (m .live) (m .phase) (m .line .mark) (m .line .remembered) sda p e eight
-seen-taken false m sda p e off eight = absurd (rw p at off)
-
--- A level of 0 or 1 has SCL low.
-low-sample :
-    (w : Served) (level : ℕ) → level ≤ 1 → let m : Module = w .state .mssp in
-    byDefinition w (feedSample level) .left .state .mssp ≡ seenIf (m .config .sspen) m false (onWire (sdaPulled (m .phase)) (sdaOf level))
-low-sample w level low =
-    let high : level / 2 ^ 1 % 2 ≡ 1 → ⊥ = λ e. omega arith in
-    rw (lt-ltb level 4 (omega arith), ne-eqb (level / 2 ^ 1 % 2) 1 high, and-false)
+same-said : {a b x y : ℕ} → a ≡ x → b ≡ y → TakenAsSaid x y → TakenAsSaid a b
+same-said e f t = rw (e, f) t
 
 pub takes-what-hits : TakesWhatHits
 unfolding byState
-takes-what-hits h level low p e =
+takes-what-hits h level low p e first known =
     ⊎-elim (λ k. absurd (omega (arith, rw (doorLook, k .0) at p)))
     (λ k.
-    let s = k .0 in let m = s .mssp in
+    let s = k .0 in let m = s .mssp in let ph = m .phase in
     let was = look-is s h (k .2) in
-    let is = ap (λ (shown : View). shown .phase) (demand-two s h (feedSample level ∷ []) (k .2) .3) in
-    let v = clauses m (and-left (valid m) (handlerValid (s .handler)) (k .2 .1)) in
-    let after = is ∙ ap (λ (n : Module). phaseNumber (n .phase)) (low-sample (served s (h .buffer)) level low) in
-    rw (after, was, hit-is s h (k .2) (bitsOf (m .phase) .value))
-    (seen-taken (m .config .sspen) m (onWire (sdaPulled (m .phase)) (sdaOf level)) (sym (ap (λ (shown : View). shown .phase) was) ∙ p)
-    (sym (ap (λ (shown : View). shown .bits) was) ∙ e) (v .off) (v .eight)))
+    let number : phaseNumber ph ≡ 1 = sym (ap (λ (shown : View). shown .phase) was) ∙ p in
+    let count : bitsOf ph .count ≡ 8 = sym (ap (λ (shown : View). shown .bits) was) ∙ e in
+    let which : phaseWhich ph ≡ 0 = which-is ph number ∙ sym (ap (λ (shown : View). shown .which) was) ∙ first in
+    let fell = sample-lowers s h (k .2) level low (λ q. omega (arith, number, q)) in
+    let after = fell .moved ∙ eighth-falls s h (k .2) level number count ∙ ap (λ (t : Bool). addressByte t (m .config) (m .live) (bitsOf ph .value)) (ap (λ (n : ℕ). eqb n 2) which) in
+    let asks : isTenBit (m .config) ≡ true → bit 0 (bitsOf ph .value) ≡ true → m .live .full ≡ true =
+    λ ten sends.
+    is-true (m .live .full) (sym (ap (λ (shown : View). shown .full) was) ∙ known (shown-ten s h (k .2) .0 ten) (ap (λ (shown : View). bit 0 (shown .byte)) was ∙ sends)) in
+    let taken = first-taken (isTenBit (m .config)) (hitOf (m .config) (bitsOf ph .value)) (m .config) (m .live) (bitsOf ph .value) asks in
+    let phase = ap (λ (shown : View). shown .phase) (fell .shown) ∙ ap (λ (n : Moved). phaseNumber (n .phase)) after in
+    let says = ap (λ (shown : View). doorHit (h .state) (shown .byte) .value) was ∙ ap (λ (a : Answer). a .value) (hit-is s h (k .2) (bitsOf ph .value)) in
+    same-said phase says taken)
     (image-or-none (h .state))
