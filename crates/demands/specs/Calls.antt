@@ -29,6 +29,7 @@ use Rattle.steps.specs.declared.Item.the-variants.{Call, Read, Write}
 use Rattle.steps.specs.Step.{Stepped, stepOf, afterAll}
 use Rattle.trace.specs.Run.{firstBad, itemIf, itemAt}
 use Rattle.image.specs.Image.{imageLength, validState, encodeOf}
+use Rattle.view.specs.declared.View.{View}
 use Rattle.settling.specs.declared.Answer.{Answer}
 use Rattle.settling.specs.Outcome.{Lent, outcome, lent, done, refused}
 use Rattle.firmware_calls.specs.Calls.{doorSetup, doorCall, doorRun}
@@ -243,6 +244,42 @@ abbrev pub TakenAsSaid : ℕ → ℕ → Type 0
 TakenAsSaid after says =
     ((after ≡ 0) × (says ≡ hitNumber None))
     ⊎ (((after ≡ 3) ⊎ (after ≡ 4)) × ((says ≡ hitNumber Own) ⊎ (says ≡ hitNumber GeneralCall)))
+
+-- ---- ten bits (02, 9)
+-- The calls that can end the hold for ADD: a write to ADD (5), disabling by CON1 (2) with SSPEN 0, and setting up anew.
+abbrev pub CanEndTheHold : DoorCall → Type 0
+CanEndTheHold (setUp add n) = Unit {0}
+CanEndTheHold (readRegister number) = ⊥
+CanEndTheHold (writeRegister number value) = (number ≡ 5) ⊎ ((number ≡ 2) × (bit 5 value ≡ false))
+CanEndTheHold (feedSample level) = ⊥
+CanEndTheHold (callHandler start n) = ⊥
+CanEndTheHold (runTrace start n items) = ⊥
+
+-- What follows the hold: quiet (0), a low byte (1, which 2) or data (2), each without bits and with a free clock.
+abbrev pub FollowsAsShown : ℕ → View → Type 0
+FollowsAsShown next after =
+    (((next ≡ 0) × (after .phase ≡ 0)) ⊎ ((next ≡ 1) × (after .phase ≡ 1) × (after .which ≡ 2)) ⊎ ((next ≡ 2) × (after .phase ≡ 2)))
+    × (after .bits ≡ 0) × (after .«scl_pulled» ≡ 0)
+
+-- An address of eight bits that the module has to acknowledge: a first byte whose bits 7 to 1 are ADD's, with R/W 1 after the full
+-- match alone; a low byte that is ADD.
+abbrev pub Matches : View → Type 0
+Matches shown =
+    ((shown .which ≡ 0) × Fits (shown .add) 0xFF (shown .byte) × (bit 0 (shown .byte) ≡ true → shown .full ≡ 1))
+    ⊎ ((shown .which ≡ 2) × (shown .byte ≡ shown .add))
+
+-- What the ninth fall leaves of a slot, by the byte it belongs to (0 is left to the rule of seven bits) and whether it pulled: an
+-- acknowledged high byte (1) and every low byte (2) is held for ADD (8), and what follows then; a high byte that asks to send (3)
+-- is held for sending (5) or ends the full match.
+abbrev pub EndsAs : ℕ → ℕ → View → Type 0
+EndsAs which pulled after =
+    (which ≡ 0)
+    ⊎ ((which ≡ 1) × (pulled ≡ 1) × (after .phase ≡ 8) × (after .next ≡ 1))
+    ⊎ ((which ≡ 1) × (pulled ≡ 0) × (after .phase ≡ 0))
+    ⊎ ((which ≡ 2) × (pulled ≡ 1) × (after .phase ≡ 8) × (after .next ≡ 2) × (after .full ≡ 1))
+    ⊎ ((which ≡ 2) × (pulled ≡ 0) × (after .phase ≡ 8) × (after .next ≡ 0))
+    ⊎ ((which ≡ 3) × (pulled ≡ 1) × (after .phase ≡ 5))
+    ⊎ ((which ≡ 3) × (pulled ≡ 0) × (after .phase ≡ 0) × (after .full ≡ 0))
 
 -- ---- a trace through the door
 -- Every byte is an item.

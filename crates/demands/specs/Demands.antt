@@ -3,7 +3,7 @@
 use Prim.Native.Nat.{ℕ, _+_, _%_, _<_, _≤_}
 use mathlib.Core.Logic.{_⊎_, _↔_}
 use mathlib.Core.Path.{_≡_}
-use mathlib.Core.Bool.{true}
+use mathlib.Core.Bool.{true, false}
 use mathlib.Core.List.{List, [], _∷_, map}
 use lib.ListN.{length}
 use Rattle.items.specs.First.{FirstAbove}
@@ -25,7 +25,7 @@ use Rattle.settling.specs.Outcome.{done}
 use Rattle.module_calls.specs.Calls.{doorLook, doorHit}
 use Rattle.door.specs.declared.Part.{Part}
 use Rattle.door.specs.Door.{doorFind}
-use Rattle.demands.specs.Calls.{DoorCall, setUp, readRegister, feedSample, callHandler, runTrace, Host, answers, leftAfter, Allows, atDoor, byDefinition, ImageOf, shownCON1, HasTenBits, causes, lookCauses, findCauses, Exactly, OnlyBeside, Beside, StaysEnabled, Fits, TakenAsSaid, AllItems, Feeds, ShowsNoneRefused, firmware}
+use Rattle.demands.specs.Calls.{DoorCall, setUp, readRegister, writeRegister, feedSample, callHandler, runTrace, Host, answers, leftAfter, Allows, atDoor, byDefinition, ImageOf, shownCON1, HasTenBits, causes, lookCauses, findCauses, Exactly, OnlyBeside, Beside, StaysEnabled, Fits, TakenAsSaid, CanEndTheHold, FollowsAsShown, Matches, EndsAs, AllItems, Feeds, ShowsNoneRefused, firmware}
 
 -- ---- DEMAND 1: every call has one outcome, changes only what it may, and refuses by number, exactly for the causes of the table
 -- Only one answer fits a call's contract, with one state and one buffer. (What look, hit and find answer is an equation as it
@@ -146,6 +146,50 @@ TakesWhatHits =
     → let shown : View = doorLook (h .state) in
     shown .phase ≡ 1 → shown .bits ≡ 8 → shown .which ≡ 0 → (HasTenBits (shown .con1) → bit 0 (shown .byte) ≡ true → shown .full ≡ 1)
     → TakenAsSaid (doorLook (atDoor h (feedSample level) .left .state) .phase) (doorHit (h .state) (shown .byte) .value)
+
+-- ---- ten bits: UA, bit 1 of STAT, is 1 exactly in the hold for ADD, phase 8
+abbrev pub UAInTheHold : Type 0
+UAInTheHold = (h : Host) → let shown : View = doorLook (h .state) in (bit 1 (shown .stat) ≡ true) ↔ (shown .phase ≡ 8)
+
+-- That hold ends by a write to ADD, by disabling or by a new setup, and by no other call, whatever it is: CKP is one of them.
+abbrev pub HeldUntilADD : Type 0
+HeldUntilADD =
+    (h : Host) (c : DoorCall) → let shown : View = doorLook (h .state) in
+    let after : View = doorLook (atDoor h c .left .state) in
+    shown .phase ≡ 8 → (CanEndTheHold c → ⊥) → (after .phase ≡ 8) × (after .next ≡ shown .next)
+
+-- A write to ADD does end it, and what look showed to follow does; so does disabling, and quiet follows.
+abbrev pub EndedByADD : Type 0
+EndedByADD =
+    (h : Host) (value : ℕ) → let shown : View = doorLook (h .state) in
+    shown .phase ≡ 8
+    → FollowsAsShown (shown .next) (doorLook (atDoor h (writeRegister 5 value) .left .state))
+    × (bit 5 value ≡ false → doorLook (atDoor h (writeRegister 2 value) .left .state) .phase ≡ 0)
+
+-- A ten-bit module acknowledges exactly where the high byte fits, and then the low byte: where look shows an address (phase 1) of
+-- eight bits, AHEN (bit 1 of CON3), BF (bit 0 of STAT) and SSPOV (bit 6 of CON1) 0, at the sample with SCL low.
+abbrev pub AcknowledgesTenBits : Type 0
+AcknowledgesTenBits =
+    (h : Host) (level : ℕ) → level ≤ 1
+    → let shown : View = doorLook (h .state) in
+    HasTenBits (shown .con1) → shown .phase ≡ 1 → shown .bits ≡ 8
+    → bit 1 (shown .con3) ≡ false → bit 0 (shown .stat) ≡ false → bit 6 (shown .con1) ≡ false
+    → (doorLook (atDoor h (feedSample level) .left .state) .«sda_pulled» ≡ 1) ↔ Matches shown
+
+-- And what the fall after it leaves: where look shows a slot (phase 4) with SCL high on the wire, at the sample with SCL low.
+abbrev pub NinthFallOfTenBits : Type 0
+NinthFallOfTenBits =
+    (h : Host) (level : ℕ) → level ≤ 1
+    → let shown : View = doorLook (h .state) in
+    shown .phase ≡ 4 → 2 ≤ shown .wire → shown .wire ≤ 3
+    → EndsAs (shown .which) (shown .«sda_pulled») (doorLook (atDoor h (feedSample level) .left .state))
+
+-- In every other mode, and disabled, UA stays 0, and there is no full match, no high and no low byte.
+abbrev pub SevenBitsAlone : Type 0
+SevenBitsAlone =
+    (h : Host) → let shown : View = doorLook (h .state) in
+    ((bit 5 (shown .con1) ≡ true) × HasTenBits (shown .con1) → ⊥)
+    → (bit 1 (shown .stat) ≡ false) × (shown .full ≡ 0) × (shown .which ≡ 0) × (shown .next ≡ 0)
 
 -- ---- after an accepted setup look shows, and reads give, CON1 36, CON2 01, CON3 00, MSK FF (hex) and ADD; the rest is as fresh
 abbrev pub SetupRegisters : Type 0

@@ -7,3 +7,4 @@ pub mod HandlerIsFirmware
 pub mod ModeStays
 pub mod Falls
 pub mod WhichAddress
+pub mod TenBits

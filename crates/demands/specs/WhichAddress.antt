@@ -43,7 +43,7 @@ agrees-in i add msk byte =
       λ same. by-test (eqb m 0) (λ e. rw e) (λ e. rw e (eq-eqb b a (same (eq-eqb m 1 (omega (arith, eqb-false m 0 e)))))),
     )
 
-fits-exactly : (add msk byte : ℕ) → (fitting add msk byte ≡ true) ↔ Fits add msk byte
+pub fits-exactly : (add msk byte : ℕ) → (fitting add msk byte ≡ true) ↔ Fits add msk byte
 fits-exactly add msk byte =
     let a : (i : ℕ) → (agrees i add msk byte ≡ true) ↔ AgreesIn i add msk byte = λ i. agrees-in i add msk byte in
     let all = both _ _ (both _ _ (both _ _ (both _ _ (both _ _ (both _ _ (a 1) (a 2)) (a 3)) (a 4)) (a 5)) (a 6)) (a 7) in (
@@ -103,10 +103,10 @@ hit-says h byte accepted =
     (image-or-none (h .state))
 
 -- ---- what the module takes
-which-is : (ph : Phase) → phaseNumber ph ≡ 1 → phaseWhich ph ≡ whichSeen ph
+pub which-is : (ph : Phase) → phaseNumber ph ≡ 1 → phaseWhich ph ≡ whichSeen ph
 which-is ph number = rw number refl
 
-is-true : (b : Bool) → boolByte b ≡ 1 → b ≡ true
+pub is-true : (b : Bool) → boolByte b ≡ 1 → b ≡ true
 is-true true e = refl
 is-true false e = absurd (omega arith)
 

@@ -8,7 +8,7 @@ use native.Mathlib.Numerals.{add-one}
 use mir.Val.{boolByte}
 use lib.Dec.{T, T-not, eqb, leb, ltb, leb→le, ltb→lt, le→leb, lt→ltb}
 use borrow.Author.Tests.{ltb-true}
-use Rattle.truth.specs.Tests.{and-both, and-left, and-right, or-left, or-right, or-false, by-test}
+use Rattle.truth.specs.Tests.{and-both, and-left, and-right, or-left, or-right, or-false, neither, by-test}
 use Rattle.wire.specs.declared.Bits.{Bits}
 use Rattle.wire.specs.declared.Remembered.{Remembered}
 use Rattle.wire.specs.declared.Remembered.the-variants.{Nothing, Wire}
@@ -325,11 +325,6 @@ edge-seven c l ph Start ten f o = (f, refl)
 edge-seven c l ph Stop ten f o = (refl, refl)
 edge-seven c l ph (Rise sda) ten f o = rise-seven l ph sda f o
 edge-seven c l ph Fall ten f o = fall-seven c l ph ten f o
-
-neither : (a b : Bool) → T (not (a || b)) → (a ≡ false) × (b ≡ false)
-neither true b h = absurd h
-neither false true h = absurd h
-neither false false h = (refl, refl)
 
 pub ten-kept :
     (c : Config) (l : Live) (ph : Phase) (e : Edge) → T (tenFit (isTenBit c) (l .full) ph)

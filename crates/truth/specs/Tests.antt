@@ -1,6 +1,6 @@
 -- Laws of tests: what two tests together say, and the two ways that one can come out.
 use mathlib.Core.Path.{_≡_, refl, sym}
-use mathlib.Core.Bool.{Bool, true, false, true≢false, cond, _&&_, _||_}
+use mathlib.Core.Bool.{Bool, true, false, true≢false, cond, _&&_, _||_, not}
 use lib.Dec.{T}
 
 pub and-both : (a b : Bool) → T a → T b → T (a && b)
@@ -26,6 +26,11 @@ or-right false b t = t
 pub or-false : (a : Bool) → a || false ≡ a
 or-false true = refl
 or-false false = refl
+
+pub neither : (a b : Bool) → T (not (a || b)) → (a ≡ false) × (b ≡ false)
+neither true b h = absurd h
+neither false true h = absurd h
+neither false false h = (refl, refl)
 
 -- Either a test holds or it fails.
 pub by-test {ℓ} : {P : Type ℓ} (t : Bool) → (t ≡ true → P) → (t ≡ false → P) → P
