@@ -1,5 +1,5 @@
--- The bench examples P1 to P12 (01, "Bench examples"; 02, 1 and 4), one table and one statement over the definitions that the code is
--- proved against: items played by `afterAll`.
+-- The bench examples P1 to P12 (01, "Bench examples"; 02, 1 and 4), and of our own T1 and T2 for ten bits, one table and one statement
+-- over the definitions that the code is proved against: items played by `afterAll`.
 use Prim.Native.Nat.{ℕ, zero, suc, _+_, _/_, _%_, _^_}
 use mathlib.Core.Bool.{Bool, true, false, _&&_, not}
 use mathlib.Core.List.{List, [], _∷_, _++_, map}
@@ -7,7 +7,7 @@ use lib.Dec.{eqb}
 use lib.ListN.{length, getD}
 use Rattle.mssp.specs.declared.Live.{Live}
 use Rattle.mssp.specs.Module.{setup}
-use Rattle.mssp.specs.Phases.{bitsOf, isQuiet, isSending}
+use Rattle.mssp.specs.Phases.{bitsOf, isQuiet, isSending, isHeldForAdd}
 use Rattle.mssp.specs.Drivers.{sdaPulled}
 use Rattle.address.specs.declared.Hit.{Hit}
 use Rattle.address.specs.declared.Hit.the-variants.{None, Own, GeneralCall}
@@ -69,6 +69,28 @@ stillOverflown = overflow ++ (Read 0 ∷ (restart ++ byte 0x31))
 abbrev pub reading : List Item
 reading = begin ++ (given 0x30 ++ (given 30 ++ (restart ++ given 0x31)))
 
+-- Ours, T1 and T2 (02, 9): ten bits with ADD F4 and A7, by a firmware of register accesses. Disabled, ADD's high byte and SSPM
+-- 0111; at each hold for ADD BUF is read, SSPIF cleared and ADD written.
+abbrev pub tenBits : List Item
+tenBits = Write 2 0x16 ∷ Write 5 0xF4 ∷ Write 2 0x37 ∷ []
+
+abbrev pub answered : ℕ → List Item
+answered add = Read 0 ∷ Write 7 0 ∷ Write 5 add ∷ []
+
+-- The high byte up to the hold after it, and the low byte likewise.
+abbrev pub highByte : List Item
+highByte = tenBits ++ (opening 0xF4 ++ ninth 1)
+
+abbrev pub lowByte : ℕ → List Item
+lowByte v = highByte ++ (answered 0xA7 ++ (byte v ++ ninth 1))
+
+-- T1: a data byte after both. T2: a Restart and the high byte with R/W 1, the byte loaded and the clock let go by CKP.
+abbrev pub tenBitWrite : List Item
+tenBitWrite = lowByte 0xA7 ++ (answered 0xF4 ++ byte 0x5A)
+
+abbrev pub tenBitRead : List Item
+tenBitRead = lowByte 0xA7 ++ (answered 0xF4 ++ (restart ++ (byte 0xF5 ++ (ninth 1 ++ (Read 0 ∷ Write 0 0x3C ∷ Write 2 0x37 ∷ [])))))
+
 -- 32 bytes that differ: place k holds 100 + k.
 abbrev pub rising : ℕ → ℕ → List ℕ
 rising zero from = []
@@ -89,6 +111,10 @@ pulls w = sdaPulled (w .state .mssp .phase)
 
 abbrev pub quiet : Served → Bool
 quiet w = isQuiet (w .state .mssp .phase)
+
+-- Held until ADD is written, which is UA 1.
+abbrev pub awaits : Served → Bool
+awaits w = isHeldForAdd (w .state .mssp .phase)
 
 -- Which address a first byte hits, by the registers as they are.
 abbrev pub hits : Hit → ℕ → Served → Bool
@@ -151,6 +177,14 @@ table =
     ∷ case memory32 (reading ++ fetched 0) (λ w. sends 131 w)
     ∷ case memory32 (reading ++ (fetched 0 ++ fetched 0)) (λ w. sends 100 w)
     ∷ case memory32 (reading ++ (fetched 0 ++ (fetched 0 ++ fetched 1))) (λ w. pointer 1 w && quiet w)
+    -- T1: UA, SSPIF and the hold after the high byte and after the low one, whether it matches or not; then data
+    ∷ case memory32 highByte (λ w. awaits w && flag (λ l. l .sspif) w && buf 0xF4 w)
+    ∷ case memory32 (lowByte 0xA7) (λ w. awaits w && flag (λ l. l .full) w && flag (λ l. l .sspif) w && buf 0xA7 w)
+    ∷ case memory32 (lowByte 0xA6) (λ w. awaits w && not (flag (λ l. l .full) w) && flag (λ l. l .sspif) w && not (flag (λ l. l .bf) w))
+    ∷ case memory32 tenBitWrite (λ w. pulls w && buf 0x5A w && flag (λ l. l .da) w && not (flag (λ l. l .rw) w))
+    -- T2: after the full match alone the high byte with R/W 1 begins sending
+    ∷ case memory32 tenBitRead (λ w. sends 0x3C w && flag (λ l. l .full) w && flag (λ l. l .rw) w)
+    ∷ case memory32 (tenBits ++ opening 0xF5) (λ w. quiet w && not (flag (λ l. l .bf) w))
     ∷ []
 
 abbrev pub runCase : Case → Bool

@@ -110,15 +110,7 @@ pub fn stand_part(phase: Phase, line: Line) -> [u8; 7]
 }
 
 // Whether seven bytes are just the part of the phase and the line that they name.
-pub fn is_stand(
-    number: u8,
-    count: u8,
-    byte: u8,
-    mark: u8,
-    wire: u8,
-    marked: u8,
-    which: u8,
-) -> bool
+pub fn is_stand(number: u8, count: u8, byte: u8, mark: u8, wire: u8, marked: u8, which: u8) -> bool
     ensures { λ r. ⌜ r ≡ isStand number count byte mark wire marked which ⌝ }
 {
     let phase = phase_from(number, count, byte, mark, which);
