@@ -1,12 +1,9 @@
 /* A host in C: two channels on one bus, each with a state and a window of its own, fed with a capture and drawn as lanes. */
-#include "wherryoar.h"
+#include "rows.h"
 
-#include <stdio.h>
-#include <string.h>
+enum { GCEN = 0x80, SEN = 0x01 };
 
-enum { SDA = 1, SCL = 2, SSPIF = 1, P = 0x10, GCEN = 0x80, SEN = 0x01 };
-
-enum { CHANNELS = 2, MEMORY = 48, ITEMS = 4096, WIDTH = 80 };
+enum { CHANNELS = 2, MEMORY = 48, ITEMS = 4096 };
 
 /* A channel: its state, its window in the host's memory, and what was seen of it after each item. */
 typedef struct {
@@ -24,12 +21,6 @@ typedef struct {
     char driven[ITEMS];     /* the items as they were written */
     size_t length;
 } host;
-
-/* A row of the picture, a character for each item from one up to another. */
-typedef struct {
-    size_t from, to;
-    char text[WIDTH + 1];
-} row;
 
 /* ---- Feeding ---- */
 
@@ -109,18 +100,6 @@ static int feed_file(host *h, FILE *file)
 
 /* ---- What happened at an item ---- */
 
-/* Whether a Start was seen there: only a Start sets the mark. */
-static int is_start(const channel *c, size_t item)
-{
-    return c->seen[item].mark && (item == 0 || !c->seen[item - 1].mark);
-}
-
-/* Whether a Stop was seen there: only a Stop sets P. */
-static int is_stop(const channel *c, size_t item)
-{
-    return (c->seen[item].stat & P) && (item == 0 || !(c->seen[item - 1].stat & P));
-}
-
 /* The phase in a word short enough for its lane. */
 static const char *phase_name(const wherryoar_view *v)
 {
@@ -134,7 +113,7 @@ static const char *phase_name(const wherryoar_view *v)
 /* Whether an item begins a new stretch of the phase lane. */
 static int begins_phase(const channel *c, size_t item)
 {
-    return item == 0 || is_start(c, item) || strcmp(phase_name(&c->seen[item]), phase_name(&c->seen[item - 1])) != 0;
+    return item == 0 || is_start(c->seen, item) || strcmp(phase_name(&c->seen[item]), phase_name(&c->seen[item - 1])) != 0;
 }
 
 /* Whether an item begins a new stretch of the pointer lane. */
@@ -145,59 +124,10 @@ static int begins_pointer(const channel *c, size_t item)
 
 /* ---- Lanes ---- */
 
-/* Prints a row under its name, without blanks at its end. */
-static void print_row(const char *name, row *r)
+/* A lane more that is on or off. */
+static int is_acknowledging(const wherryoar_view *v)
 {
-    size_t length = r->to - r->from;
-
-    while (length > 0 && r->text[length - 1] == ' ')
-        length--;
-    r->text[length] = '\0';
-    printf("%-10s%s\n", name, r->text);
-}
-
-/* Writes as much of a label as fits between two items. */
-static void write_label(row *r, size_t item, size_t end, const char *label)
-{
-    for (; item < end && item < r->to && *label != '\0'; item++)
-        r->text[item - r->from] = *label++;
-}
-
-/* SCL or SDA as the wire is: _ low, - high, the edges between them; on SDA a Start and a Stop by their letters. */
-static void draw_line(const char *name, const channel *c, row r, unsigned line)
-{
-    size_t i;
-
-    for (i = r.from; i < r.to; i++) {
-        int now = (c->seen[i].wire & line) != 0;
-        int before = i == 0 ? now : (c->seen[i - 1].wire & line) != 0;
-        char sign = now ? '-' : '_';
-
-        if (now != before)
-            sign = now ? '/' : '\\';
-        if (line == SDA && now != before && (is_start(c, i) || is_stop(c, i)))
-            sign = now ? 'P' : 'S';
-        r.text[i - r.from] = sign;
-    }
-    print_row(name, &r);
-}
-
-/* The three lanes that are on or off. */
-static void draw_bars(const channel *c, row r)
-{
-    row flagged = r, held = r, acknowledged = r;
-    size_t i;
-
-    for (i = r.from; i < r.to; i++) {
-        const wherryoar_view *v = &c->seen[i];
-
-        flagged.text[i - r.from] = v->flag & SSPIF ? '#' : '.';
-        held.text[i - r.from] = v->scl_pulled ? '#' : '.';
-        acknowledged.text[i - r.from] = v->phase == WHERRYOAR_SLOT && v->sda_pulled ? '#' : '.';
-    }
-    print_row("  SSPIF", &flagged);
-    print_row("  held", &held);
-    print_row("  ack", &acknowledged);
+    return v->phase == WHERRYOAR_SLOT && v->sda_pulled;
 }
 
 /* The label of a stretch of phases: its name, and the byte once it is whole. An address may be the general call. */
@@ -227,34 +157,12 @@ static void draw_stretches(const char *name, const host *h, const channel *c, ro
             phase_label(c, item, end, label, sizeof label);
         else
             snprintf(label, sizeof label, "%u", c->seen[item].pointer);
-        if (begins(c, item)) {
-            r.text[item - r.from] = '|';
-            write_label(&r, item + 1, end, label);
-        } else {
-            write_label(&r, item, end, label);
-        }
+        write_stretch(&r, item, end, begins(c, item), label);
     }
     print_row(name, &r);
 }
 
 /* ---- The picture ---- */
-
-/* The number of every tenth item, and the items as they were written. */
-static void draw_items(const host *h, row r)
-{
-    row numbers = r;
-    size_t i;
-    char label[24];
-
-    for (i = r.from; i < r.to; i++) {
-        r.text[i - r.from] = h->driven[i];
-        snprintf(label, sizeof label, "%lu", (unsigned long)i);
-        if (i % 10 == 0 && strlen(label) <= r.to - i)
-            write_label(&numbers, i, r.to, label);
-    }
-    print_row("item", &numbers);
-    print_row("driven", &r);
-}
 
 /* All lanes of a channel. */
 static void draw_channel(const host *h, int number, row r)
@@ -262,24 +170,25 @@ static void draw_channel(const host *h, int number, row r)
     const channel *c = &h->channels[number];
 
     printf("channel %d, ADD %02X%s\n", number + 1, c->add, c->seen[r.from].con2 & GCEN ? ", GCEN" : "");
-    draw_line("  SCL", c, r, SCL);
-    draw_line("  SDA", c, r, SDA);
+    draw_line("  SCL", c->seen, r, SCL);
+    draw_line("  SDA", c->seen, r, SDA);
     draw_stretches("  phase", h, c, r, begins_phase);
-    draw_bars(c, r);
+    draw_bar("  SSPIF", c->seen, r, is_flagged);
+    draw_bar("  held", c->seen, r, is_held);
+    draw_bar("  ack", c->seen, r, is_acknowledging);
     draw_stretches("  pointer", h, c, r, begins_pointer);
 }
 
 /* The items in pieces of one width, and for each piece both channels. */
 static void draw(const host *h)
 {
-    row r;
+    size_t from;
 
-    memset(r.text, ' ', WIDTH);
-    r.text[WIDTH] = '\0';
-    for (r.from = 0; r.from < h->length; r.from = r.to) {
-        r.to = h->length - r.from < WIDTH ? h->length : r.from + WIDTH;
+    for (from = 0; from < h->length; from += WIDTH) {
+        row r = blank_row(from, h->length);
+
         putchar('\n');
-        draw_items(h, r);
+        draw_items(h->driven, r);
         draw_channel(h, 0, r);
         draw_channel(h, 1, r);
     }

@@ -2,6 +2,7 @@
    state images and the finder. */
 #include "door.h"
 #include "hits.h"
+#include "modes.h"
 #include "slots.h"
 #include "write_refusal.h"
 
@@ -132,6 +133,14 @@ static unsigned hit(unsigned byte)
     a = door.hit(image, DOOR_IMAGE, (uint8_t)byte);
     expect(a.refusal == 0 && a.item == 0 && memcmp(old, image, DOOR_IMAGE) == 0, "hit is not refused and changes nothing");
     return a.value;
+}
+
+/* Whether the state is in a slot of this case, as its view shows it and as its image holds it. */
+static int in_slot(unsigned wanted)
+{
+    door_view v = now();
+
+    return v.phase == DOOR_SLOT && slot_case(v.sda_pulled, v.refused) == wanted && image[PART_AT] == wanted;
 }
 
 /* ---- Bench examples ---- */
@@ -343,6 +352,29 @@ static void rule_mode(void)
     expect(is_refusal(door.write(image, DOOR_IMAGE, CON1, 0x36), 8, 0), "back to 0110 in a message");
 }
 
+/* CKP 0 written, or standing from before, starts no hold: in quiet, in an address, in a slot, in data before its first bit and
+   after it. */
+static void rule_ckp(void)
+{
+    fresh(0x30, 32);
+    put(CON1, 0x26);
+    items("3");
+    expect(now().phase == DOOR_QUIET && !now().scl_pulled, "CKP 0 in quiet");
+    items("20");
+    expect(now().phase == DOOR_ADDRESS && !now().scl_pulled, "CKP 0 before an address");
+    bits(0x30);
+    expect(in_slot(SLOT_PULLING) && !now().scl_pulled && !(reg(CON1) & CKP), "CKP 0 in a slot");
+    items("131h");
+    expect(now().phase == DOOR_DATA && !now().scl_pulled && (reg(CON1) & CKP), "a hold and its end");
+    put(CON1, 0x26);
+    expect(now().phase == DOOR_DATA && now().bits == 0 && !now().scl_pulled, "CKP 0 before the first bit of data");
+    items("13");
+    expect(now().bits == 1 && now().wire == 3, "SCL goes up with CKP 0");
+    put(CON1, 0x36);
+    put(CON1, 0x26);
+    expect(now().bits == 1 && !now().scl_pulled, "CKP 1 and 0 within a byte");
+}
+
 /* ---- Readings for states that no trace from setup reaches ---- */
 
 /* A state put together: STAT, CON1, CON3, phase with what only it has of parts (held, refused or the slot's case), wire; n is
@@ -393,14 +425,6 @@ static void readings(void)
 }
 
 /* ---- An interrupt after an overflow ---- */
-
-/* Whether the state is in a slot of this case, as its view shows it and as its image holds it. */
-static int in_slot(unsigned wanted)
-{
-    door_view v = now();
-
-    return v.phase == DOOR_SLOT && slot_case(v.sda_pulled, v.refused) == wanted && image[PART_AT] == wanted;
-}
 
 /* A hold before acknowledge ends, with the other bits of CON1 as they are. */
 static void release(void)
@@ -855,18 +879,22 @@ static void refusals_single(void)
     expect(is_refusal(door.write(image, 48, CON2, 0x02), 2, 0), "write: master only");
     expect(is_refusal(door.write(image, 48, CON2, 0x10), 2, 0), "write: master only, the highest");
     expect(is_refusal(door.write(image, 48, CON3, 0x10), 2, 0), "write: BOEN");
-    expect(is_refusal(door.write(image, 48, CON1, 0x27), 3, 0), "write: 3 before 8");
+    expect(is_refusal(door.write(image, 48, CON1, 0x25), 3, 0), "write: 3 before 8");
     expect(is_refusal(door.write(image, 48, CON1, 0xEE), 8, 0), "write: 8");
+    expect(is_refusal(door.write(image, 48, CON1, 0x37), 8, 0), "write: 8 to ten bits");
     expect(is_refusal(door.write(image, 47, CON1, 0xEE), 6, 0), "write: 6 before 8");
     expect(is_refusal(door.hit(image, 47, 0x30), 6, 0), "hit: 6");
     expect(is_refusal(door.sample(image, 47, 4), 6, 0), "sample: 6 before 4");
     expect(is_refusal(door.sample(image, 48, 4), 4, 0), "sample: 4");
     expect(memcmp(old, image, DOOR_IMAGE) == 0, "refusals leave the state");
-    put(CON1, 0x17);
-    expect(reg(CON1) == 0x17, "any mode with SSPEN 0");
-    expect(is_refusal(door.write(image, 48, CON1, 0x27), 3, 0), "write: 3 while off, with the mode that stands");
+    put(CON1, 0x15);
+    expect(reg(CON1) == 0x15, "any mode with SSPEN 0");
+    expect(is_refusal(door.write(image, 48, CON1, 0x25), 3, 0), "write: 3 while off, with the mode that stands");
+    put(MSK, 0xF0);
+    expect(is_refusal(door.write(image, 48, CON1, 0x27), 9, 0), "write: 9 while off");
     put(CON1, 0x2E);
     expect(reg(CON1) == 0x2E, "write: no 8 while off");
+    expect(is_refusal(door.write(image, 48, CON1, 0x27), 8, 0), "write: 8 before 9");
 }
 
 /* Refusals of windows and traces, in their order, without a sum that wraps. */
@@ -897,14 +925,34 @@ static void refusals_run(void)
 
 /* ---- State images ---- */
 
-/* The paper's clauses on registers, straight off the image. */
+/* The paper's clauses on registers, straight off the image. UA is none of its bits: byte 8 tells it. */
 static int registers_are_a_states(const uint8_t *i)
 {
     int enabled = (i[CON1] & 0x20) != 0;
 
     return (i[STAT] & 0x18) != 0x18 && (i[STAT] & 0x02) == 0 && (i[CON3] & 0x10) == 0 && (i[CON2] & 0x1E) == 0
-        && i[FLAG] <= 1 && (!enabled || (i[CON1] & 0x07) == 0x06)
+        && i[FLAG] <= 1 && (!enabled || mode_can_run(i[CON1])) && (!mode_runs_ten(i[CON1]) || i[MSK] == 0xFF)
         && (enabled || (i[8] == DOOR_QUIET && i[13] == 0));
+}
+
+/* What only ten bits have, straight off the image: which byte a phase belongs to or what follows it, and the full match. */
+static int ten_bits_are_a_states(const uint8_t *i)
+{
+    int theirs = i[8] == DOOR_HELD_ADD || i[14] != 0 || i[15] != 0;
+
+    if (i[15] > 1 || (theirs && !mode_runs_ten(i[CON1])))
+        return 0;
+    switch (i[8]) {
+    case DOOR_ADDRESS:
+        return i[14] == 0 || i[14] == 2;
+    case DOOR_HELD_BEFORE:
+    case DOOR_SLOT:
+        return i[14] <= 3;
+    case DOOR_HELD_ADD:
+        return i[14] <= 2;
+    default:
+        return i[14] == 0;
+    }
 }
 
 /* The parts of each phase, straight off the image. */
@@ -918,6 +966,7 @@ static int phase_is_a_states(const uint8_t *i)
     switch (i[8]) {
     case DOOR_QUIET:
     case DOOR_MASTER_ACK:
+    case DOOR_HELD_ADD:
         return none;
     case DOOR_ADDRESS:
         return i[9] <= 8 && i[10] < (1 << i[9]) && i[11] == 0 && (i[9] < 8 || high);
@@ -944,8 +993,8 @@ static int is_a_state(const uint8_t *i)
     unsigned n = i[16] + 256u * i[17], pointer = i[18] + 256u * i[19];
     int place, marked = (i[STAT] & S) != 0 && (i[12] == 2 || i[12] == 3) && i[8] == DOOR_ADDRESS && i[9] == 0;
 
-    for (place = 14; place < DOOR_IMAGE; place++)
-        if (i[place] != 0 && (place < 16 || place > 20))
+    for (place = 21; place < DOOR_IMAGE; place++)
+        if (i[place] != 0)
             return 0;
     if (i[12] > 3 && i[12] != 255)
         return 0;
@@ -953,7 +1002,7 @@ static int is_a_state(const uint8_t *i)
         return 0;
     if (n < 1 || n > 256 || pointer >= n || i[20] > 1)
         return 0;
-    return registers_are_a_states(i) && phase_is_a_states(i);
+    return registers_are_a_states(i) && phase_is_a_states(i) && ten_bits_are_a_states(i);
 }
 
 static uint64_t seed = 88172645463325252u;
@@ -967,28 +1016,39 @@ static unsigned below(unsigned limit)
     return (unsigned)(seed >> 33) % limit;
 }
 
+/* Random registers near enough to a state's. */
+static void near_registers(uint8_t *i)
+{
+    int place;
+
+    for (place = 0; place < 8; place++)
+        i[place] = (uint8_t)below(256);
+    i[STAT] &= below(4) ? 0xED : 0xFF;
+    i[CON1] = (uint8_t)((i[CON1] & (below(2) ? 0xF8 : 0xE8)) | 0x06 | below(2));
+    i[CON2] &= below(16) ? 0xE1 : 0xFF;
+    i[CON3] &= below(16) ? 0xEF : 0xFF;
+    if (below(4))
+        i[MSK] = 0xFF;
+    i[FLAG] &= below(16) ? 0x01 : 0xFF;
+}
+
 /* Random bytes near enough to an image that many are a state's. */
 static void near_image(uint8_t *i)
 {
     static const unsigned lengths[6] = {1, 2, 32, 255, 256, 257};
     unsigned n = lengths[below(6)], pointer = below(20) ? below(n) : below(300);
     unsigned shift = below(9), strange = below(DOOR_IMAGE);
-    int place;
 
     memset(i, 0, DOOR_IMAGE);
-    for (place = 0; place < 8; place++)
-        i[place] = (uint8_t)below(256);
-    i[STAT] &= below(4) ? 0xED : 0xFF;
-    i[CON1] = (uint8_t)((i[CON1] & (below(2) ? 0xF8 : 0xE8)) | 0x06);
-    i[CON2] &= below(16) ? 0xE1 : 0xFF;
-    i[CON3] &= below(16) ? 0xEF : 0xFF;
-    i[FLAG] &= below(16) ? 0x01 : 0xFF;
-    i[8] = (uint8_t)below(below(16) ? 8 : 256);
+    near_registers(i);
+    i[8] = (uint8_t)below(below(16) ? DOOR_PHASES : 256);
     i[9] = (uint8_t)(below(2) ? below(10) : 0);
     i[10] = (uint8_t)(below(2) ? below(1u << (i[9] < 8 ? i[9] : 8)) : below(256) >> shift);
     i[11] = (uint8_t)(below(2) ? below(5) : i[8] == DOOR_SLOT);
     i[12] = (uint8_t)(below(4) ? below(5) : 255);
     i[13] = (uint8_t)(below(4) ? 0 : below(3));
+    i[14] = (uint8_t)(below(mode_runs_ten(i[CON1]) ? 2 : 16) ? 0 : below(5));
+    i[15] = (uint8_t)(below(mode_runs_ten(i[CON1]) ? 2 : 16) ? 0 : below(3));
     i[16] = (uint8_t)n;
     i[17] = (uint8_t)(n >> 8);
     i[18] = (uint8_t)pointer;
@@ -1028,44 +1088,65 @@ static unsigned any_call(unsigned n)
 static int is_empty(door_view v)
 {
     return !(v.buf | v.stat | v.con1 | v.con2 | v.con3 | v.add | v.msk | v.flag | v.scl_pulled | v.sda_pulled
-             | v.phase | v.bits | v.byte | v.refused | v.wire | v.mark | v.due | v.n | v.pointer);
+             | v.phase | v.bits | v.byte | v.refused | v.wire | v.mark | v.due | v.n | v.pointer | v.which | v.next | v.full);
 }
 
-/* Random images: refused exactly when no state's, and then untouched. */
-static void images(unsigned long rounds)
+/* How often random images came to what they are to come to. */
+typedef struct {
+    unsigned long states, ten, modes, masks;
+} reach;
+
+/* An image that is a state's: looked at, asked which address a byte hits, and taken through a few calls. */
+static void take_state(unsigned byte, reach *r)
+{
+    unsigned n = image[16] + 256u * image[17], i, refusal;
+
+    r->states++;
+    r->ten += image[8] == DOOR_HELD_ADD || image[14] != 0 || image[15] != 0;
+    expect(now().refusal == 0, "look on a state");
+    expect(hit(byte) == hit_of(image, byte), "hit on a state");
+    expect(image[8] != DOOR_SLOT || in_slot(image[PART_AT]), "look on a slot");
+    for (i = 0; i < 6; i++) {
+        refusal = any_call(n);
+        r->modes += refusal == 8;
+        r->masks += refusal == 9;
+    }
+}
+
+/* An image that is no state's: refused by every call, and untouched. */
+static void refuse_bytes(unsigned byte)
 {
     static const uint8_t quiet_trace[1] = {3};
-    unsigned long states = 0, modes = 0;
     uint8_t old[DOOR_IMAGE];
 
+    memcpy(old, image, DOOR_IMAGE);
+    expect(now().refusal == 6 && is_empty(now()), "look on no state");
+    expect(is_refusal(door.hit(image, DOOR_IMAGE, (uint8_t)byte), 6, 0), "hit on no state");
+    expect(is_refusal(door.read(image, DOOR_IMAGE, 0), 6, 0), "read on no state");
+    expect(is_refusal(door.write(image, DOOR_IMAGE, CON1, 0), 6, 0), "write on no state");
+    expect(is_refusal(door.sample(image, DOOR_IMAGE, 3), 6, 0), "sample on no state");
+    expect(is_refusal(door.call(image, DOOR_IMAGE, buffer, BUFFER, 0, 1), 6, 0), "call on no state");
+    expect(is_refusal(door.run(image, DOOR_IMAGE, buffer, BUFFER, 0, 1, quiet_trace, 1), 6, 0), "run on no state");
+    expect(memcmp(old, image, DOOR_IMAGE) == 0, "no state stays untouched");
+}
+
+/* Random images: refused exactly when no state's. */
+static void images(unsigned long rounds)
+{
+    reach r = {0, 0, 0, 0};
+
     while (rounds-- > 0) {
-        unsigned pick = below(HIT_BYTES), byte = below(256);
+        unsigned pick = below(HIT_BYTES), any = below(256);
 
         near_image(image);
-        byte = hit_byte(image, pick, byte);
-        memcpy(old, image, DOOR_IMAGE);
-        if (is_a_state(image)) {
-            unsigned n = image[16] + 256u * image[17], i;
-
-            states++;
-            expect(now().refusal == 0, "look on a state");
-            expect(hit(byte) == hit_of(image, byte), "hit on a state");
-            expect(image[8] != DOOR_SLOT || in_slot(image[PART_AT]), "look on a slot");
-            for (i = 0; i < 6; i++)
-                modes += any_call(n) == 8;
-            continue;
-        }
-        expect(now().refusal == 6 && is_empty(now()), "look on no state");
-        expect(is_refusal(door.hit(image, DOOR_IMAGE, (uint8_t)byte), 6, 0), "hit on no state");
-        expect(is_refusal(door.read(image, DOOR_IMAGE, 0), 6, 0), "read on no state");
-        expect(is_refusal(door.write(image, DOOR_IMAGE, CON1, 0), 6, 0), "write on no state");
-        expect(is_refusal(door.sample(image, DOOR_IMAGE, 3), 6, 0), "sample on no state");
-        expect(is_refusal(door.call(image, DOOR_IMAGE, buffer, BUFFER, 0, 1), 6, 0), "call on no state");
-        expect(is_refusal(door.run(image, DOOR_IMAGE, buffer, BUFFER, 0, 1, quiet_trace, 1), 6, 0), "run on no state");
-        expect(memcmp(old, image, DOOR_IMAGE) == 0, "no state stays untouched");
+        if (is_a_state(image))
+            take_state(hit_byte(image, pick, any), &r);
+        else
+            refuse_bytes(hit_byte(image, pick, any));
     }
-    expect(states > 0 && modes > 0, "states, and changes of their mode");
-    printf("images that were states %lu, changes of mode refused %lu\n", states, modes);
+    expect(r.ten > 0 && r.states > r.ten && r.modes > 0 && r.masks > 0, "states of seven and ten bits, changes of mode, masks");
+    printf("images that were states %lu, with parts of ten bits %lu, changes of mode refused %lu, masks refused %lu\n",
+           r.states, r.ten, r.modes, r.masks);
 }
 
 /* ---- The finder ---- */
@@ -1148,6 +1229,7 @@ int main(void)
     rule_disabling();
     rule_disabling_later();
     rule_mode();
+    rule_ckp();
     readings();
     whole_bytes();
     rule_refused();

@@ -9,12 +9,12 @@
 
 enum { BUF, STAT, CON1, CON2, CON3, ADD, MSK, FLAG, REGISTERS };
 
-enum { QUIET, ADDRESS, DATA, HELD_BEFORE, SLOT, HELD_SENDING, SENDING, MASTER_ACK, PHASES };
+enum { QUIET, ADDRESS, DATA, HELD_BEFORE, SLOT, HELD_SENDING, SENDING, MASTER_ACK, HELD_ADD, PHASES };
 
 /* The shortest trace to a spoiled place has 24 steps; one that is not much longer is short. A long run has to reach every
-   refusal, every phase, every case of a slot, every answer to which address hit, and every moment around a refused byte and a
-   general call. */
-enum { REFUSALS = 9, MODE_UNDER_WAY = 8, NO_WIRE = 255, NO_ITEM = 255, SHORT_TRACE = 30, LONG_RUN = 100000 };
+   refusal, phase and mode, every case of a slot of every byte, all that can follow the hold for ADD, every answer to which
+   address hit, and every moment around a refused byte, a general call and a ten-bit address. */
+enum { REFUSALS = 10, MODE_UNDER_WAY = 8, MASKED = 9, NO_WIRE = 255, NO_ITEM = 255, SHORT_TRACE = 30, LONG_RUN = 100000 };
 
 /* All that the comparison keeps; the counts tell what was reached, so that a pass says something. */
 typedef struct {
@@ -24,10 +24,13 @@ typedef struct {
     uint8_t record[PAIR_BYTES];   /* the last wire levels */
     unsigned recorded;
     int placing;                  /* whether states are placed as images */
+    int ten_bits;                 /* whether rounds are half of them with ten bits */
+    int calm;                     /* whether this round has few stray accesses and no states placed, so that messages end */
     int difference;
     unsigned long steps, wanted, kinds[PAIR_KINDS], refused[REFUSALS], phases[PHASES];
-    unsigned long with_1110;      /* steps after which the module runs with SSPM 1110 */
-    unsigned long slots[SLOT_CASES], hits[HITS], moments[MOMENTS];
+    unsigned long running[MODES]; /* steps after which the module runs, by its mode */
+    unsigned long slots[BYTES][SLOT_CASES], low_bytes, held_before[BYTES], nexts[NEXTS], full; /* what they come to */
+    unsigned long hits[HITS], moments[MOMENTS];
 } bench;
 
 /* ---- Steps ---- */
@@ -50,20 +53,32 @@ static pair_step step_of(bench *b, int kind)
     return s;
 }
 
+/* Counts the state that a step has come to. */
+static void count_state(bench *b, const second_view *v)
+{
+    int i;
+
+    b->phases[v->phase % PHASES]++;
+    for (i = 0; i < MODES; i++)
+        b->running[i] += (v->con1 & 0x2F) == (0x20 | modes_all[i]);
+    if (v->phase == SLOT)
+        b->slots[v->which % BYTES][slot_case(v->sda_pulled, v->refused)]++;
+    b->low_bytes += v->phase == ADDRESS && v->which == BYTE_LOW;
+    b->held_before[v->which % BYTES] += v->phase == HELD_BEFORE;
+    b->nexts[v->next % NEXTS] += v->phase == HELD_ADD;
+    b->full += v->full;
+}
+
 /* Counts what a step from a state has reached. */
 static void count(bench *b, const pair_step *s, const uint8_t *before)
 {
     uint64_t refusal = b->both.second.outcome.refusal;
-    const second_view *v = &b->both.second.view;
 
     b->steps++;
     b->kinds[s->kind]++;
     if (refusal < REFUSALS)
         b->refused[refusal]++;
-    b->phases[v->phase & 7]++;
-    b->with_1110 += (v->con1 & 0x2F) == 0x2E;
-    if (v->phase == SLOT)
-        b->slots[slot_case(v->sda_pulled, v->refused)]++;
+    count_state(b, &b->both.second.view);
     if (refusal == 0 && s->kind == PAIR_HIT && b->both.second.outcome.value < HITS)
         b->hits[b->both.second.outcome.value]++;
     if (refusal == 0 && s->kind < PAIR_RUN) /* a sample, a handler call, a read or a write */
@@ -93,10 +108,18 @@ static void make(bench *b, const pair_step *s)
 
 /* ---- Register access at odd times ---- */
 
+/* A value for CON1: mostly with the address bits of the round. */
+static unsigned some_con1(bench *b)
+{
+    static const uint8_t values[6] = {0x36, 0x3E, 0x26, 0x2E, 0xF6, 0x16};
+    unsigned ten = traffic_once_in(&b->source, 6) ? traffic_below(&b->source, 2) : b->source.ten;
+
+    return values[traffic_below(&b->source, 6)] | ten;
+}
+
 /* A byte to write: mostly one that keeps the traffic going. */
 static unsigned some_value(bench *b, int number)
 {
-    static const uint8_t modes[6] = {0x36, 0x3E, 0x26, 0x2E, 0xF6, 0x16};
     unsigned any = traffic_below(&b->source, 256);
     int wild = traffic_once_in(&b->source, 6);
 
@@ -104,7 +127,7 @@ static unsigned some_value(bench *b, int number)
         return any;
     switch (number) {
     case CON1:
-        return modes[traffic_below(&b->source, 6)];
+        return some_con1(b);
     case CON2:
         return any & 0xE1;
     case CON3:
@@ -112,7 +135,7 @@ static unsigned some_value(bench *b, int number)
     case ADD:
         return b->round.add;
     case MSK:
-        return any | 0xF0;
+        return traffic_once_in(&b->source, 2) ? 0xFF : any | 0xF0;
     case FLAG:
         return any & 1;
     default:
@@ -130,8 +153,28 @@ static void write_value(bench *b, int number, unsigned value)
     make(b, &s);
 }
 
-/* A read or a write, of any register and now and then of none. A mode refused under way is mostly written again, with the
-   module switched off before and any mode stored in it. */
+/* A mode refused under way is mostly written again, with the module switched off before and any mode stored in it; ten bits
+   refused with a mask mostly without it. */
+static void write_again(bench *b, const pair_step *s)
+{
+    uint64_t refusal = b->both.second.outcome.refusal;
+
+    if (traffic_once_in(&b->source, 8))
+        return;
+    if (refusal == MODE_UNDER_WAY) {
+        do
+            write_value(b, CON1, traffic_below(&b->source, 256) & 0xDF);
+        while (traffic_once_in(&b->source, 3));
+        make(b, s);
+        refusal = b->both.second.outcome.refusal;
+    }
+    if (refusal == MASKED && s->number == CON1) {
+        write_value(b, MSK, 0xFF);
+        make(b, s);
+    }
+}
+
+/* A read or a write, of any register and now and then of none. */
 static void access_register(bench *b)
 {
     int writes = !traffic_once_in(&b->source, 3);
@@ -141,18 +184,16 @@ static void access_register(bench *b)
     if (writes)
         s.value = (uint8_t)some_value(b, s.number);
     make(b, &s);
-    if (b->both.second.outcome.refusal == MODE_UNDER_WAY && !traffic_once_in(&b->source, 8)) {
-        do
-            write_value(b, CON1, traffic_below(&b->source, 256) & 0xDF);
-        while (traffic_once_in(&b->source, 3));
-        make(b, &s);
-    }
+    if (b->both.second.outcome.refusal != 0 && writes)
+        write_again(b, &s);
 }
 
-/* A module switched off by a write is mostly switched on again. */
+/* A module switched off by a write is mostly switched on again, with the address bits of the round. */
 static void switch_on(bench *b)
 {
-    write_value(b, CON1, traffic_once_in(&b->source, 2) ? 0x3E : 0x36);
+    if (b->source.ten && !traffic_once_in(&b->source, 4))
+        write_value(b, MSK, 0xFF);
+    write_value(b, CON1, (traffic_once_in(&b->source, 2) ? 0x3Eu : 0x36u) | b->source.ten);
 }
 
 /* What software does between the eighth fall of a byte and its ninth, in a hold or in the slot: it reads BUF, clears SSPOV,
@@ -184,6 +225,53 @@ static void access_before_ninth(bench *b)
         write_value(b, CON1, v->con1 & 0xDFu);
         break;
     }
+}
+
+/* What software does in the hold for ADD: mostly it reads BUF and writes ADD; else it turns CKP over, clears SSPIF, writes MSK,
+   or switches off. */
+static void access_in_hold_for_add(bench *b)
+{
+    const second_view *v = &b->both.second.view;
+    pair_step s = step_of(b, PAIR_READ);
+
+    switch (traffic_below(&b->source, traffic_once_in(&b->source, 8) ? 9 : 8)) {
+    case 0:
+    case 1:
+        write_value(b, CON1, v->con1 ^ 0x10u);
+        break;
+    case 2:
+        write_value(b, FLAG, 0);
+        break;
+    case 3:
+        write_value(b, MSK, traffic_once_in(&b->source, 2) ? 0xFF : traffic_below(&b->source, 256));
+        break;
+    case 8:
+        write_value(b, CON1, v->con1 & 0xDFu);
+        break;
+    default:
+        s.number = BUF;
+        if (!traffic_once_in(&b->source, 4))
+            make(b, &s);
+        write_value(b, ADD, traffic_update(&b->source, v->next));
+        break;
+    }
+}
+
+/* What software does in quiet and in data, so that the next byte is taken: it reads BUF, clears SSPOV, and puts the high byte
+   back into ADD where a message was cut short. */
+static void tidy(bench *b)
+{
+    const second_view *v = &b->both.second.view;
+    int between = v->phase == QUIET || v->phase == DATA;
+    pair_step s = step_of(b, PAIR_READ);
+
+    s.number = BUF;
+    if (between && (v->stat & 0x01))
+        make(b, &s);
+    if (between && (v->con1 & 0x40))
+        write_value(b, CON1, v->con1 & 0xBFu);
+    if (between && b->source.ten && v->add != b->source.add)
+        write_value(b, ADD, b->source.add);
 }
 
 /* ---- Steps that are refused ---- */
@@ -267,14 +355,17 @@ static void put_byte(pair_step *s, unsigned value, unsigned ninth)
     put(s, TRAFFIC_CALL);
 }
 
-/* A run: a message of two bytes, or items without sense; now and then with one that is none. */
+/* A run: a message of two bytes, a low byte where one is to come, or items without sense; now and then with a bad one. */
 static void run(bench *b)
 {
+    const second_view *v = &b->both.second.view;
     pair_step s = step_of(b, PAIR_RUN);
     unsigned address = (b->round.add & 0xFEu) | traffic_below(&b->source, 2);
     unsigned items = traffic_below(&b->source, PAIR_BYTES + 1);
 
-    if (traffic_once_in(&b->source, 3)) {
+    if (v->phase == ADDRESS && v->which == BYTE_LOW && v->bits == 0)
+        put_byte(&s, b->source.low, 1);
+    else if (traffic_once_in(&b->source, 3)) {
         while (items-- > 0)
             put(&s, traffic_below(&b->source, 5));
     } else {
@@ -331,23 +422,39 @@ static void hit(bench *b)
 /* Registers of a state: any but for what the paper rules out, given its phase. */
 static void some_registers(bench *b, uint8_t *image, int phase)
 {
-    int holds = phase == HELD_BEFORE || phase == HELD_SENDING, i;
+    int holds = phase == HELD_BEFORE || phase == HELD_SENDING, ten = phase == HELD_ADD || traffic_once_in(&b->source, 2), i;
 
     for (i = 0; i < REGISTERS; i++)
         image[i] = (uint8_t)traffic_below(&b->source, 256);
     image[STAT] &= traffic_once_in(&b->source, 2) ? 0xE5 : 0xF5;
     if (!(image[STAT] & 0x10) && !traffic_once_in(&b->source, 3))
         image[STAT] |= 0x08;
-    image[CON1] = (uint8_t)((image[CON1] & (holds ? 0xE8 : 0xF8)) | 0x06);
+    image[CON1] = (uint8_t)((image[CON1] & (holds ? 0xE8 : 0xF8)) | 0x06 | ten);
     if (phase != QUIET)
         image[CON1] |= 0x20;
     image[CON2] &= 0xE1;
     image[CON3] &= 0xEF;
     if (!traffic_once_in(&b->source, 4))
         image[ADD] = b->round.add;
-    if (!traffic_once_in(&b->source, 4))
+    if (!traffic_once_in(&b->source, 4) || (mode_runs_ten(image[CON1]) && !traffic_once_in(&b->source, 16)))
         image[MSK] = 0xFF;
     image[FLAG] &= 1;
+}
+
+/* The parts that ten bits add to a state: which byte its phase belongs to, what follows it, and the full match. */
+static void some_ten_bits(bench *b, uint8_t *image, int phase)
+{
+    if (!mode_runs_ten(image[CON1]))
+        return;
+    image[FULL_AT] = (uint8_t)traffic_below(&b->source, 2);
+    if (phase == ADDRESS && image[9] == 8 && traffic_once_in(&b->source, 2))
+        image[10] = (uint8_t)(image[ADD] ^ traffic_below(&b->source, 2));
+    if (phase == ADDRESS)
+        image[WHICH_AT] = (uint8_t)(traffic_below(&b->source, 2) * BYTE_LOW);
+    else if (phase == HELD_BEFORE || phase == SLOT)
+        image[WHICH_AT] = (uint8_t)traffic_below(&b->source, BYTES);
+    else if (phase == HELD_ADD)
+        image[WHICH_AT] = (uint8_t)traffic_below(&b->source, NEXTS);
 }
 
 /* The phase's parts, wire and mark of a state. */
@@ -361,8 +468,8 @@ static void some_phase(bench *b, uint8_t *image, int phase)
         image[9] = (uint8_t)(count & 7);
         image[10] = (uint8_t)traffic_below(&b->source, 256);
     } else if (phase == ADDRESS || phase == DATA) {
-        if (traffic_once_in(&b->source, 4))
-            count = 8;
+        if (traffic_once_in(&b->source, 3))
+            count = traffic_once_in(&b->source, 2) ? 0 : 8;
         if (count == 8)
             wire |= TRAFFIC_SCL;
         image[9] = (uint8_t)count;
@@ -385,14 +492,18 @@ static void some_phase(bench *b, uint8_t *image, int phase)
 /* Changes a byte of a state: to any value, by one, or to what is just outside its range. */
 static void spoil(bench *b, uint8_t *image, unsigned n)
 {
-    static const uint8_t places[9] = {8, 9, 11, 11, 11, 12, 12, 13, 20}, values[9] = {8, 9, 0, 2, 4, 1, 4, 2, 2};
-    unsigned pick = traffic_below(&b->source, 12), place = traffic_below(&b->source, 21);
+    enum { PLACES = 16 };
+    static const uint8_t places[PLACES] = {8, 8, 9, 11, 11, 11, 12, 12, 13, 14, 14, 14, 14, 15, 15, 20};
+    static const uint8_t values[PLACES] = {8, 9, 9, 0, 2, 4, 1, 4, 2, 1, 2, 3, 4, 1, 2, 2};
+    unsigned pick = traffic_below(&b->source, PLACES + 4), place = traffic_below(&b->source, 21);
 
-    if (pick < 9)
+    if (pick < PLACES)
         image[places[pick]] = values[pick];
-    else if (pick == 9)
+    else if (pick == PLACES)
         image[18] = (uint8_t)n;
-    else if (pick == 10)
+    else if (pick == PLACES + 1)
+        image[traffic_once_in(&b->source, 2) ? STAT : CON1] ^= traffic_once_in(&b->source, 2) ? 1 : 2;
+    else if (pick == PLACES + 2)
         image[place] = (uint8_t)(image[place] + (traffic_once_in(&b->source, 2) ? 1 : 255));
     else
         image[traffic_below(&b->source, PAIR_IMAGE)] = (uint8_t)traffic_below(&b->source, 256);
@@ -407,6 +518,7 @@ static void place(bench *b)
 
     some_registers(b, s.bytes, phase);
     some_phase(b, s.bytes, phase);
+    some_ten_bits(b, s.bytes, phase);
     pointer = traffic_once_in(&b->source, 2) ? traffic_below(&b->source, n) : n - 1;
     s.bytes[16] = (uint8_t)n;
     s.bytes[17] = (uint8_t)(n >> 8);
@@ -427,11 +539,11 @@ static int take(void *to, unsigned item)
     const second_view *v = &b->both.second.view;
     pair_step s;
 
-    if (traffic_once_in(&b->source, 30))
+    if (traffic_once_in(&b->source, b->calm ? 300 : 30))
         access_register(b);
     if (traffic_once_in(&b->source, 60))
         odd_step(b);
-    if (b->placing && traffic_once_in(&b->source, 50))
+    if (b->placing && !b->calm && traffic_once_in(&b->source, 50))
         place(b);
     if (traffic_once_in(&b->source, 60))
         find(b);
@@ -439,8 +551,12 @@ static int take(void *to, unsigned item)
         hit(b);
     if (!(v->con1 & 0x20) && traffic_once_in(&b->source, 8))
         switch_on(b);
-    if ((v->phase == HELD_BEFORE || v->phase == SLOT) && traffic_once_in(&b->source, 3))
+    if (traffic_once_in(&b->source, b->calm ? 8 : 50))
+        tidy(b);
+    if ((v->phase == HELD_BEFORE || v->phase == SLOT) && traffic_once_in(&b->source, b->calm && v->which != BYTE_LOW ? 12 : 3))
         access_before_ninth(b);
+    if (v->phase == HELD_ADD && traffic_once_in(&b->source, 2))
+        access_in_hold_for_add(b);
     s = step_of(b, item == TRAFFIC_CALL ? PAIR_CALL : PAIR_SAMPLE);
     if (s.kind == PAIR_SAMPLE)
         s.number = (uint8_t)item;
@@ -448,7 +564,22 @@ static int take(void *to, unsigned item)
     return v->scl_pulled;
 }
 
-/* Both afresh, with a window anywhere in a buffer of any bytes. */
+/* Settings for a round: mostly others than the handler's, ACKDT seldom; ten bits are switched over to while off. */
+static void settle(bench *b)
+{
+    if (!traffic_once_in(&b->source, 3)) {
+        unsigned kept = traffic_once_in(&b->source, 4) ? 0xE1 : 0xC1;
+
+        write_value(b, CON2, traffic_below(&b->source, 256) & kept);
+        write_value(b, CON3, traffic_below(&b->source, 256) & 0xEF);
+    }
+    if (b->source.ten) {
+        write_value(b, CON1, 0x16);
+        switch_on(b);
+    }
+}
+
+/* Both afresh, with a window anywhere in a buffer of any bytes; half of the rounds with ten bits. */
 static void fresh(bench *b)
 {
     static const uint16_t lengths[6] = {1, 2, 3, 32, 255, 256};
@@ -456,17 +587,20 @@ static void fresh(bench *b)
     unsigned pick = traffic_below(&b->source, 8), i;
 
     r->count = 0;
-    r->add = traffic_add(&b->source);
+    b->calm = traffic_once_in(&b->source, 2);
+    b->source.add = traffic_add(&b->source);
+    traffic_choose_ten(&b->source, b->ten_bits && traffic_once_in(&b->source, 2));
+    r->add = b->source.add;
     r->n = (uint16_t)(pick < 6 ? lengths[pick] : 1 + traffic_below(&b->source, 256));
     r->start = traffic_below(&b->source, PAIR_BUFFER - r->n + 1u);
     for (i = 0; i < PAIR_BUFFER; i++)
         r->buffer[i] = (uint8_t)traffic_below(&b->source, 256);
     b->recorded = 0;
-    b->source.add = r->add;
     b->source.n = r->n;
     b->source.left = ROUND_STEPS;
     b->source.held = 0;
     b->difference = pair_setup(&b->both, r->add, r->n, r->buffer);
+    settle(b);
 }
 
 /* One round, from its setup up to its last step or the first difference. */
@@ -489,7 +623,21 @@ static void round_once(bench *b)
 
 /* ---- The whole ---- */
 
-/* Whether every refusal, every phase, the mode 1110, every case of a slot, every address hit and every moment came up. */
+/* Whether every byte of ten bits came up in each of its phases, and the full match. */
+static int ten_bits_reached(const bench *b)
+{
+    int i;
+
+    for (i = 0; i < BYTES; i++)
+        if (!slots_all(b->slots[i]) || b->held_before[i] == 0)
+            return 0;
+    for (i = 0; i < NEXTS; i++)
+        if (b->nexts[i] == 0)
+            return 0;
+    return b->low_bytes > 0 && b->full > 0;
+}
+
+/* Whether every refusal, phase and mode, every case of a slot of every byte, every address hit and every moment came up. */
 static int all_reached(const bench *b)
 {
     int i;
@@ -500,7 +648,24 @@ static int all_reached(const bench *b)
     for (i = 0; i < PHASES; i++)
         if (b->phases[i] == 0)
             return 0;
-    return b->with_1110 > 0 && slots_all(b->slots) && hits_all(b->hits) && moments_all(b->moments);
+    for (i = 0; i < MODES; i++)
+        if (b->running[i] == 0)
+            return 0;
+    return ten_bits_reached(b) && hits_all(b->hits) && moments_all(b->moments);
+}
+
+/* Tells what was reached of slots and of ten bits. */
+static void tell_ten_bits(const bench *b)
+{
+    static const char *const names[BYTES] = {"other", "high byte", "low byte", "high byte that asks to send"};
+    int i;
+
+    for (i = 0; i < BYTES; i++) {
+        printf("%s%s: held before %lu, ", i == 0 ? "# " : "; ", names[i], b->held_before[i]);
+        slots_tell(b->slots[i]);
+    }
+    printf("\n# low bytes under way %lu; held for ADD, then quiet %lu, low byte %lu, data %lu; full match %lu\n", b->low_bytes,
+           b->nexts[NEXT_QUIET], b->nexts[NEXT_LOW_BYTE], b->nexts[NEXT_DATA], b->full);
 }
 
 /* Tells what was reached. */
@@ -514,13 +679,13 @@ static void tell_reach(const bench *b)
     printf("# refused");
     for (i = 1; i < REFUSALS; i++)
         printf(" %d: %lu", i, b->refused[i]);
-    printf("\n# after a step: mode 1110 %lu; quiet %lu address %lu data %lu held before %lu slot %lu held for sending %lu"
-           " sending %lu master's acknowledge %lu\n", b->with_1110, b->phases[QUIET], b->phases[ADDRESS], b->phases[DATA],
-           b->phases[HELD_BEFORE], b->phases[SLOT], b->phases[HELD_SENDING], b->phases[SENDING],
-           b->phases[MASTER_ACK]);
+    printf("\n# after a step: mode 0110 %lu, 1110 %lu, 0111 %lu, 1111 %lu; quiet %lu address %lu data %lu held before %lu"
+           " slot %lu held for sending %lu sending %lu master's acknowledge %lu held for ADD %lu\n", b->running[0],
+           b->running[1], b->running[2], b->running[3], b->phases[QUIET], b->phases[ADDRESS], b->phases[DATA],
+           b->phases[HELD_BEFORE], b->phases[SLOT], b->phases[HELD_SENDING], b->phases[SENDING], b->phases[MASTER_ACK],
+           b->phases[HELD_ADD]);
+    tell_ten_bits(b);
     printf("# ");
-    slots_tell(b->slots);
-    printf("; ");
     hits_tell(b->hits);
     printf("; ");
     moments_tell(b->moments);
@@ -542,8 +707,9 @@ static size_t rounds(bench *b, unsigned long steps)
     return round_tell(&b->round);
 }
 
-/* The argument is the number of steps, the second the seed. With a third, 1 to 4, one bit of the archive's answer, state,
-   buffer or view is turned over at a place; then the difference must be told, and shortly. */
+/* The argument is the number of steps, the second the seed. With a third, 1 to 5, one bit of the archive's answer, state,
+   buffer or view, or of its view in the hold for ADD, is turned over at a place; then the difference must be told, and
+   shortly. Ten bits come into sending by three bytes, which is long, and so only where no place in sending is spoiled. */
 int main(int argc, char **argv)
 {
     static bench b;
@@ -553,6 +719,7 @@ int main(int argc, char **argv)
     b.source.seed = argc > 2 ? strtoul(argv[2], NULL, 10) | 1u : 20240229u;
     b.round.spoiled = argc > 3 ? atoi(argv[3]) : PAIR_SAME;
     b.placing = b.round.spoiled == PAIR_SAME;
+    b.ten_bits = b.round.spoiled == PAIR_SAME || b.round.spoiled == PAIR_TEN_BITS;
     told = rounds(&b, steps);
     if (b.round.spoiled != PAIR_SAME) {
         printf("# spoiled on purpose: %s, told in %lu steps\n", told > 0 ? "found" : "not found", (unsigned long)told);

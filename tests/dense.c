@@ -9,9 +9,9 @@
 #include <stdlib.h>
 #include <string.h>
 
-enum { IMAGE = DOOR_IMAGE, LONGEST = 4096, MEMORY = 256, CON1 = 2, CON2 = 3, CON3 = 4, FLAG = 7 };
+enum { IMAGE = DOOR_IMAGE, LONGEST = 4096, MEMORY = 256, BUF = 0, CON1 = 2, CON2 = 3, CON3 = 4, ADD = 5, FLAG = 7 };
 
-enum { LONG_RUN = 1000000 }; /* items from which on slots of every case have to come up */
+enum { LONG_RUN = 1000000 }; /* items from which on slots of every case and of every byte have to come up, and holds for ADD */
 
 /* A state with its memory. */
 typedef struct {
@@ -27,6 +27,8 @@ typedef struct {
     int spoil;
     unsigned long items, runs, rows, calls, differences;
     unsigned long slots[SLOT_CASES];   /* rows after which a slot stands, by its case */
+    unsigned long bytes[BYTES];        /* the same by the byte that it belongs to */
+    unsigned long holds_for_add;       /* rows after which the clock is held for ADD */
 } bench;
 
 /* ---- One item at a time ---- */
@@ -75,6 +77,30 @@ static void compare(bench *b)
     b->before = b->stepped;
 }
 
+/* What software does in the hold for ADD, between two runs: mostly it reads BUF, and it writes ADD. */
+static void serve_hold(bench *b, unsigned next)
+{
+    uint8_t *image = b->stepped.image;
+    uint32_t refusals = 0;
+
+    compare(b);
+    if (!traffic_once_in(&b->source, 4))
+        refusals |= door.read(image, IMAGE, BUF).refusal;
+    refusals |= door.write(image, IMAGE, ADD, traffic_update(&b->source, next)).refusal;
+    b->differences += refusals != 0;
+    b->before = b->stepped;
+}
+
+/* Counts what stands after a row. */
+static void count_view(bench *b, const door_view *v)
+{
+    b->holds_for_add += v->phase == DOOR_HELD_ADD;
+    if (v->phase != DOOR_SLOT)
+        return;
+    b->slots[slot_case(v->sda_pulled, v->refused)]++;
+    b->bytes[v->which % BYTES]++;
+}
+
 /* Takes an item of the traffic: a level many times over, a handler call once. */
 static int take(void *to, unsigned item)
 {
@@ -92,14 +118,17 @@ static int take(void *to, unsigned item)
     while (times-- > 0)
         step(b, item);
     v = door.look(b->stepped.image, IMAGE);
-    if (v.phase == DOOR_SLOT)
-        b->slots[slot_case(v.sda_pulled, v.refused)]++;
+    count_view(b, &v);
+    if (v.phase == DOOR_HELD_ADD && traffic_once_in(&b->source, 2)) {
+        serve_hold(b, v.next);
+        return 0;
+    }
     return v.scl_pulled;
 }
 
 /* ---- Rounds ---- */
 
-/* A fresh state, mostly with other settings than the handler's: switched off, then mostly on again with either mode. */
+/* A fresh state, mostly with other settings than the handler's: switched off, then mostly on again with any mode. */
 static int begin(bench *b)
 {
     static const uint16_t lengths[4] = {1, 2, 255, 256};
@@ -108,6 +137,7 @@ static int begin(bench *b)
 
     t->n = lengths[traffic_below(t, 4)];
     t->add = (uint8_t)(traffic_below(t, 128) * 2);
+    traffic_choose_ten(t, traffic_once_in(t, 2));
     memset(&b->stepped, 0, sizeof b->stepped);
     refusals = door.setup(b->stepped.image, IMAGE, t->add, t->n).refusal;
     if (!traffic_once_in(t, 3)) {
@@ -115,7 +145,7 @@ static int begin(bench *b)
         refusals |= door.write(b->stepped.image, IMAGE, CON3, (uint8_t)(traffic_below(t, 256) & 0x63)).refusal;
         refusals |= door.write(b->stepped.image, IMAGE, CON1, 0x16).refusal;
         if (!traffic_once_in(t, 8))
-            refusals |= door.write(b->stepped.image, IMAGE, CON1, traffic_once_in(t, 2) ? 0x3E : 0x36).refusal;
+            refusals |= door.write(b->stepped.image, IMAGE, CON1, (traffic_once_in(t, 2) ? 0x3E : 0x36) | t->ten).refusal;
     }
     b->before = b->stepped;
     b->length = 0;
@@ -151,6 +181,17 @@ static int round_of(bench *b)
     return fine;
 }
 
+/* Whether slots of every case and of every byte have come up, and holds for ADD. */
+static int all_reached(const bench *b)
+{
+    int i;
+
+    for (i = 0; i < BYTES; i++)
+        if (b->bytes[i] == 0)
+            return 0;
+    return slots_all(b->slots) && b->holds_for_add > 0;
+}
+
 /* The arguments: about how many items, a seed, and whether runs are spoilt, which has to be found. */
 int main(int argc, char **argv)
 {
@@ -167,6 +208,7 @@ int main(int argc, char **argv)
         fine = round_of(&b);
     printf("items %lu rows %lu calls %lu runs %lu ", b.items, b.rows, b.calls, b.runs);
     slots_tell(b.slots);
-    printf(" differences %lu\n", b.differences);
-    return fine && (items < LONG_RUN || slots_all(b.slots)) && (b.differences != 0) == b.spoil ? 0 : 1;
+    printf(" of a high byte %lu low byte %lu asking to send %lu held for ADD %lu differences %lu\n", b.bytes[BYTE_HIGH],
+           b.bytes[BYTE_LOW], b.bytes[BYTE_HIGH_TO_SEND], b.holds_for_add, b.differences);
+    return fine && (items < LONG_RUN || all_reached(&b)) && (b.differences != 0) == b.spoil ? 0 : 1;
 }

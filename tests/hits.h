@@ -3,6 +3,8 @@
 #ifndef HITS_H
 #define HITS_H
 
+#include "modes.h"
+
 #include <stdint.h>
 #include <stdio.h>
 
@@ -20,11 +22,13 @@ static inline int hit_fits(unsigned byte, unsigned add, unsigned msk)
     return 1;
 }
 
-/* Which of the three, by ADD, MSK and GCEN of an image. */
+/* Which of the three, by SSPM, ADD, MSK and GCEN of an image. Ten bits know no mask and no general call. */
 static inline unsigned hit_of(const uint8_t *image, unsigned byte)
 {
-    enum { CON2 = 3, ADD = 5, MSK = 6, GCEN = 0x80 };
+    enum { CON1 = 2, CON2 = 3, ADD = 5, MSK = 6, GCEN = 0x80, NO_MASK = 0xFF };
 
+    if (mode_is_ten(image[CON1]))
+        return hit_fits(byte, image[ADD], NO_MASK) ? HIT_OWN : HIT_NONE;
     if (hit_fits(byte, image[ADD], image[MSK]))
         return HIT_OWN;
     if (byte == 0x00 && (image[CON2] & GCEN))

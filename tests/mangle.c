@@ -1,6 +1,7 @@
 /* Mangles images that random traffic reached: each is refused with 6 and left alone by every call, or taken as a state. */
 #include "door.h"
 #include "hits.h"
+#include "modes.h"
 #include "slots.h"
 #include "traffic.h"
 #include "write_refusal.h"
@@ -9,15 +10,15 @@
 #include <stdlib.h>
 #include <string.h>
 
-enum { REGISTERS = 8, CON1 = 2, FLAG = 7, AT_PHASE = 8, AT_N = 16 };
+enum { REGISTERS = 8, STAT = 1, CON1 = 2, ADD = 5, MSK = 6, FLAG = 7, AT_PHASE = 8, AT_N = 16, UA = 0x02 };
 
 /* The room that an image is laid into, guard bytes around it and a shift of up to 7 bytes before it. */
 enum { GUARD = 16, SHIFTS = 8, LONGEST = 64, ROOM = GUARD + SHIFTS + LONGEST + GUARD, FILLER = 0x5A };
 
 enum { BUFFER = 320, TRACE = 24, PER_ITEM = 3, EARLIER = 64 };
 
-/* What a call on bytes that are no state's must have, and a write that changes the mode under way. */
-enum { NO_STATE = 6, MODE_UNDER_WAY = 8 };
+/* What a call on bytes that are no state's must have, a write that changes the mode under way, and one that masks ten bits. */
+enum { NO_STATE = 6, MODE_UNDER_WAY = 8, MASKED = 9 };
 
 /* The calls that a mangled image goes through, beside look and hit. */
 enum { SETUP, READ, WRITE, SAMPLE, CALL, RUN };
@@ -41,8 +42,11 @@ typedef struct {
     size_t at;                    /* where in the room the image lies */
     uint8_t buffer[BUFFER];
     uint8_t untouched[BUFFER];    /* the buffer as it was before a call */
-    unsigned long wanted, mutations, taken, refused, modes, calls, failures;
+    unsigned long wanted, mutations, taken, refused, modes, masked, calls, failures;
     unsigned long slots[SLOT_CASES];   /* mutations taken as a slot, by its case */
+    unsigned long bytes[BYTES];        /* mutations taken as an address, a hold or a slot, by the byte it belongs to */
+    unsigned long nexts[NEXTS];        /* mutations taken as a hold for ADD, by what follows it */
+    unsigned long full;                /* mutations taken with the full match */
     unsigned long hits[HITS];          /* answers to which address a first byte hits */
 } bench;
 
@@ -82,8 +86,8 @@ static void flip_bits(bench *b, mangled *m)
         m->bytes[below(b, DOOR_IMAGE)] ^= (uint8_t)(1u << below(b, 8));
 }
 
-/* Changes a few bytes, to any value, by one, or to one at the edge of a range; the byte that tells a slot's case as often as
-   all the others in a slot. */
+/* Changes a few bytes, to any value, by one, or to one at the edge of a range; the bytes that tell a slot's case and which byte
+   it belongs to as often as all the others in a slot. */
 static void change_bytes(bench *b, mangled *m)
 {
     static const uint8_t edges[10] = {0, 1, 2, 3, 4, 7, 8, 9, 254, 255};
@@ -91,7 +95,8 @@ static void change_bytes(bench *b, mangled *m)
 
     while (times-- > 0) {
         int slot = m->bytes[AT_PHASE] == DOOR_SLOT && below(b, 2);
-        uint8_t *byte = &m->bytes[slot ? (unsigned)PART_AT : below(b, below(b, 2) ? DOOR_IMAGE : 21)];
+        unsigned parts = below(b, 3) ? (unsigned)WHICH_AT : (unsigned)PART_AT;
+        uint8_t *byte = &m->bytes[slot ? parts : below(b, below(b, 2) ? DOOR_IMAGE : 21)];
         unsigned pick = below(b, 4);
 
         if (pick == 0)
@@ -227,6 +232,7 @@ static void single_calls(bench *b, const mangled *m, const window *w, unsigned r
         level = value;
     }
     b->modes += written == MODE_UNDER_WAY;
+    b->masked += written == MASKED;
     check(b, m, w, refusal, door.read(lay(b, m), m->length, number), READ);
     check(b, m, w, written, door.write(lay(b, m), m->length, number, value), WRITE);
     check(b, m, w, refusal, door.sample(lay(b, m), m->length, level), SAMPLE);
@@ -249,7 +255,7 @@ static void window_calls(bench *b, const mangled *m, const window *w, unsigned r
 static int is_empty(door_view v)
 {
     return !(v.buf | v.stat | v.con1 | v.con2 | v.con3 | v.add | v.msk | v.flag | v.scl_pulled | v.sda_pulled
-             | v.phase | v.bits | v.byte | v.refused | v.wire | v.mark | v.due | v.n | v.pointer);
+             | v.phase | v.bits | v.byte | v.refused | v.wire | v.mark | v.due | v.n | v.pointer | v.which | v.next | v.full);
 }
 
 /* A window that fits a state's n, anywhere in the buffer; for no state's bytes the live one's n or none. */
@@ -276,6 +282,26 @@ static void check_slot(bench *b, const mangled *m, const door_view *v)
         fail(b, m, "look shows another case of a slot");
 }
 
+/* A state shows which byte it belongs to, what follows and the full match as its image tells them, and UA exactly in the hold
+   for ADD; all of it only where ten bits run without a mask. */
+static void check_ten_bits(bench *b, const mangled *m, const door_view *v)
+{
+    int for_add = v->phase == DOOR_HELD_ADD, theirs = for_add || v->which != 0 || v->full != 0;
+    unsigned told = for_add ? v->next : v->which;
+
+    if (v->refusal != 0)
+        return;
+    if (told != m->bytes[WHICH_AT] || (for_add ? v->which : v->next) != 0 || v->full != m->bytes[FULL_AT])
+        fail(b, m, "look shows other parts of ten bits");
+    if (v->stat != (m->bytes[STAT] | (for_add ? UA : 0)))
+        fail(b, m, "look shows another STAT");
+    if (theirs && !(mode_runs_ten(m->bytes[CON1]) && m->bytes[MSK] == 0xFF))
+        fail(b, m, "a phase of ten bits where they do not run");
+    b->bytes[v->which % BYTES] += v->phase == DOOR_ADDRESS || v->phase == DOOR_HELD_BEFORE || v->phase == DOOR_SLOT;
+    b->nexts[v->next % NEXTS] += (unsigned)for_add;
+    b->full += v->full;
+}
+
 /* One mutation through every call. */
 static void try_one(bench *b)
 {
@@ -300,6 +326,7 @@ static void try_one(bench *b)
     if (state && (m.length != DOOR_IMAGE || v.n != m.bytes[AT_N] + 256u * m.bytes[AT_N + 1]))
         fail(b, &m, "look takes another length or tells another n");
     check_slot(b, &m, &v);
+    check_ten_bits(b, &m, &v);
     check_hit(b, &m, refusal);
     w = some_window(b, state, v.n);
     single_calls(b, &m, &w, refusal);
@@ -320,20 +347,44 @@ static unsigned put(bench *b, unsigned number, unsigned value)
     return wanted;
 }
 
+/* Switches over to a mode with the module switched off before, ten bits mostly without a mask. */
+static void switch_over(bench *b, unsigned con1)
+{
+    (void)put(b, CON1, 0x16);
+    if (mode_is_ten(con1) && below(b, 8) != 0)
+        (void)put(b, MSK, 0xFF);
+    (void)put(b, CON1, con1);
+}
+
 /* Now and then a register of the live state is written, so that every kind of hold and slot comes up. A mode refused under
-   way is mostly written again, with the module switched off before. */
+   way, or with a mask, is mostly written again in the way that goes. */
 static void set_register(bench *b)
 {
     static const uint8_t kept[REGISTERS] = {0xFF, 0xFF, 0, 0xE1, 0xEF, 0xFF, 0xFF, 0x01};
     unsigned number = below(b, REGISTERS), value = below(b, 256) & kept[number];
 
     if (number == CON1)
-        value = below(b, 12) == 0 ? 0x16 : below(b, 5) < 2 ? 0x36 : 0x3E;
+        value = (below(b, 12) == 0 ? 0x16u : below(b, 5) < 2 ? 0x36u : 0x3Eu) | b->source.ten;
     if (number >= 5 && number != FLAG && below(b, 8) != 0)
         return;
-    if (put(b, number, value) == MODE_UNDER_WAY && below(b, 8) != 0) {
-        (void)put(b, CON1, 0x16);
-        (void)put(b, CON1, value);
+    if (put(b, number, value) >= MODE_UNDER_WAY && number == CON1 && below(b, 8) != 0)
+        switch_over(b, value);
+}
+
+/* What software does in the hold for ADD: mostly it reads BUF and writes ADD, else it turns CKP over. Where a message was cut
+   short, it puts the high byte back. */
+static void serve_ten_bits(bench *b)
+{
+    door_view v = door.look(b->image, DOOR_IMAGE);
+
+    if (v.phase == DOOR_HELD_ADD && below(b, 4) == 0) {
+        (void)put(b, CON1, v.con1 ^ 0x10u);
+    } else if (v.phase == DOOR_HELD_ADD) {
+        if (below(b, 4) != 0)
+            (void)door.read(b->image, DOOR_IMAGE, 0);
+        (void)put(b, ADD, traffic_update(&b->source, v.next));
+    } else if (v.phase == DOOR_QUIET && v.add != b->source.add) {
+        (void)put(b, ADD, b->source.add);
     }
 }
 
@@ -346,6 +397,8 @@ static int take(void *to, unsigned item)
 
     if (below(b, 50) == 0)
         set_register(b);
+    if (b->source.ten && below(b, 4) == 0)
+        serve_ten_bits(b);
     a = item == TRAFFIC_CALL ? door.call(b->image, DOOR_IMAGE, b->memory, BUFFER, GUARD, b->n)
                              : door.sample(b->image, DOOR_IMAGE, (uint8_t)item);
     if (a.refusal != 0)
@@ -366,6 +419,7 @@ static void fresh(bench *b)
 
     b->n = lengths[below(b, 6)];
     b->source.add = traffic_add(&b->source);
+    traffic_choose_ten(&b->source, below(b, 2) == 0);
     b->source.n = b->n;
     b->source.left = 4000;
     b->source.held = 0;
@@ -375,6 +429,22 @@ static void fresh(bench *b)
     memcpy(b->untouched, b->memory, BUFFER);
     if (door.setup(b->image, DOOR_IMAGE, b->source.add, b->n).refusal != 0)
         b->failures++;
+    if (b->source.ten)
+        switch_over(b, below(b, 2) ? 0x37 : 0x3F);
+}
+
+/* Whether mutations were taken in every phase of ten bits. */
+static int ten_bits_taken(const bench *b)
+{
+    int i;
+
+    for (i = 0; i < BYTES; i++)
+        if (b->bytes[i] == 0)
+            return 0;
+    for (i = 0; i < NEXTS; i++)
+        if (b->nexts[i] == 0)
+            return 0;
+    return b->full > 0 && b->masked > 0;
 }
 
 /* The argument is the number of mutations. */
@@ -395,10 +465,15 @@ int main(int argc, char **argv)
                 traffic_message(&b.source);
         }
     }
-    printf("mutations %lu refused %lu taken %lu changes of mode %lu ", b.mutations, b.refused, b.taken, b.modes);
+    printf("mutations %lu refused %lu taken %lu changes of mode %lu masks for ten bits %lu ", b.mutations, b.refused, b.taken,
+           b.modes, b.masked);
+    printf("bytes other %lu high %lu low %lu asking %lu held for ADD then quiet %lu low byte %lu data %lu full matches %lu ",
+           b.bytes[BYTE_OTHER], b.bytes[BYTE_HIGH], b.bytes[BYTE_LOW], b.bytes[BYTE_HIGH_TO_SEND], b.nexts[NEXT_QUIET],
+           b.nexts[NEXT_LOW_BYTE], b.nexts[NEXT_DATA], b.full);
     slots_tell(b.slots);
     printf(" ");
     hits_tell(b.hits);
     printf(" calls %lu failures %lu\n", b.calls, b.failures);
-    return b.failures == 0 && b.taken > 0 && b.refused > 0 && b.modes > 0 && slots_all(b.slots) && hits_all(b.hits) ? 0 : 1;
+    return b.failures == 0 && b.taken > 0 && b.refused > 0 && b.modes > 0 && ten_bits_taken(&b) && slots_all(b.slots)
+        && hits_all(b.hits) ? 0 : 1;
 }

@@ -9,7 +9,7 @@ cd "$(dirname "$0")/.." || exit 2
 . tests/try.sh
 out=$(pwd)/target/outside
 rm -rf "$out"
-mkdir -p "$out/captures" "$out/wires" "$out/sigrok" "$out/inputs" "$out/checked"
+mkdir -p "$out/captures" "$out/wires/ten_bit" "$out/sigrok" "$out/inputs" "$out/checked"
 export PYTHONDONTWRITEBYTECODE=1
 export ASAN_OPTIONS=detect_leaks=0 # a leak check takes seconds a process on some machines; it is on where memory is allocated
 
@@ -37,7 +37,10 @@ door="-Iinclude -DDOOR_PREFIX=wherryoar_ -DDOOR_HEADER=\"wherryoar.h\""
 checked="-g -O1 -fsanitize=address,undefined -fno-sanitize-recover=undefined -DFUZZ_CHECKED"
 second=tests/second/second.c
 plain=tests/second/plain.c
-
+as_second= # an example calls the second program's functions in place of the archive's
+for function in setup read write sample call run look hit find; do
+    as_second="$as_second -Dwherryoar_$function=second_$function"
+done
 
 # With the archive, for its machine, and with the second program, natively.
 build_all() {
@@ -50,6 +53,8 @@ build_all() {
     for program in wirebytes cut; do
         gcc $strict -O2 -o "$out/$program" tests/$program.c $plain || return 1
     done
+    $CC_ARCHIVE $strict -Iinclude -O2 -o "$out/ten_bit" examples/ten_bit.c "$archive" || return 1
+    gcc $strict -Iinclude $as_second -O2 -o "$out/second_ten_bit" examples/ten_bit.c $second || return 1
     $CC_ARCHIVE $strict $door -O2 -c -o "$out/step_archive.o" tests/fuzz/step.c || return 1
     $CC_ARCHIVE $strict -DFUZZ_ARCHIVE -O2 -o "$out/door_corpus" tests/fuzz/door_fuzz.c tests/fuzz/corpus_main.c \
         tests/fuzz/step.c $second "$out/step_archive.o" "$archive"
@@ -61,9 +66,11 @@ build_checked() {
     for source in $second $plain tests/traffic.c tests/player.c; do
         gcc $strict $checked -c -o "$out/checked/$(basename "$source" .c).o" "$source" || return 1
     done
-    for program in replay checks refusals sequences cut wirebytes capture agree dense mangle; do
+    for program in replay checks refusals ten_bit_rules sequences cut wirebytes capture agree dense mangle; do
         gcc $strict $checked -o "$out/checked_$program" tests/$program.c "$out"/checked/*.o || return 1
     done
+    gcc $strict $checked -Iinclude $as_second -o "$out/checked_second_ten_bit" examples/ten_bit.c "$out/checked/second.o" ||
+        return 1
     gcc $strict $checked -o "$out/checked_corpus" tests/fuzz/door_fuzz.c tests/fuzz/corpus_main.c tests/fuzz/step.c \
         "$out/checked/second.o"
 }
@@ -74,7 +81,8 @@ build_checked_archive() {
         "$out"/checked/traffic.o "$out"/checked/second.o &&
         gcc $strict $checked -Iinclude -o "$out/checked_bench" bench/bench.c bench/capture.c "$out"/checked/second.o "$archive" &&
         gcc $strict $checked $door -o "$out/checked_wire" bench/wire.c bench/capture.c "$archive" &&
-        gcc $strict $checked -Iinclude -o "$out/checked_lanes" examples/lanes.c "$archive"
+        gcc $strict $checked -Iinclude -o "$out/checked_lanes" examples/lanes.c "$archive" &&
+        gcc $strict $checked -Iinclude -o "$out/checked_ten_bit" examples/ten_bit.c "$archive"
 }
 builds_checked() {
     try build_checked build_checked
@@ -83,33 +91,51 @@ builds_checked() {
 
 # ---- Step lists and captures ----
 
-same_reports() ( # same_reports COMMAND..: the report of each capture, which the command reads from standard input
+same_reports() ( # same_reports FOLDER COMMAND..: the report of each capture, which the command reads from standard input
     set -o pipefail
     count=0
-    for capture in "$out"/captures/*.txt; do
-        "$@" <"$capture" | diff - "tests/captures/$(basename "$capture" .txt).report" || return 1
+    for capture in "$1"/*.txt; do
+        "${@:2}" <"$capture" | diff - "tests/captures/$(basename "$capture" .txt).report" || return 1
         count=$((count + 1))
     done
     echo "captures $count"
 )
-same_wires() ( # the wire record of each capture, by the archive and by the second program
+same_wires() ( # the wire record of each capture, by the archive and by the second program; those of ten bits as text too
     set -o pipefail
+    same_wire() { # same_wire CAPTURE PROGRAM OPTION
+        wire="$out/wires/$(basename "$1" .txt).bin"
+        $RUN "$out/$2" "$3" "$1" >"$wire" && "$out/second_$2" "$3" "$1" | cmp - "$wire"
+    }
     for capture in "$out"/captures/*.txt; do
-        wire="$out/wires/$(basename "$capture" .txt).bin"
-        $RUN "$out/capture" wire "$capture" >"$wire" || return 1
-        "$out/second_capture" wire "$capture" | cmp - "$wire" || return 1
+        same_wire "$capture" capture wire || return 1
     done
+    for capture in "$out"/captures/ten_bit/*.txt; do
+        same_wire "$capture" ten_bit -w && tr '\000-\003' 0-3 <"$wire" >"$out/wires/ten_bit/$(basename "$capture")" || return 1
+    done
+)
+same_ten_bit() ( # same_ten_bit HOST..: the lanes of each ten-bit capture, as examples/ten_bit.c draws them
+    set -o pipefail
+    count=0
+    for capture in "$out"/captures/ten_bit/*.txt; do
+        "$@" "$capture" | diff - "tests/captures/$(basename "$capture" .txt).lanes" || return 1
+        count=$((count + 1))
+    done
+    echo "captures $count"
 )
 captures() {
     try build build_all
     try sequences $RUN "$out/sequences"
     try second_sequences "$out/second_sequences"
     try captures python3 tests/captures.py "$out/captures"
-    try captures_report same_reports $run_report "$report"
-    try captures_archive same_reports $RUN "$out/capture" report -
-    try captures_second same_reports "$out/second_capture" report -
+    try captures_report same_reports "$out/captures" $run_report "$report"
+    try captures_archive same_reports "$out/captures" $RUN "$out/capture" report -
+    try captures_second same_reports "$out/captures" "$out/second_capture" report -
     try report_cases_second python3 tests/report_cases.py tests/vectors/request-1.txt "$out/second_capture" report -
     try captures_wires same_wires
+    try ten_bit_archive same_ten_bit $RUN "$out/ten_bit"
+    try ten_bit_second same_ten_bit "$out/second_ten_bit"
+    try ten_bit_report same_reports "$out/wires/ten_bit" $run_report "$report"
+    try ten_bit_report_second same_reports "$out/wires/ten_bit" "$out/second_capture" report -
     try cuts "$out/cut" "$out"/wires/*.bin
 }
 
@@ -122,6 +148,7 @@ sigrok_random() {
 }
 sigrok() {
     try sigrok_whole python3 tests/sigrok_agree.py whole "$out/wirebytes" "$out"/wires/*.bin
+    try sigrok_ten_bit python3 tests/sigrok_agree.py ten_bit "$out/wirebytes" "$out"/wires/brief_ten_bit_*.bin
     try sigrok_cuts python3 tests/sigrok_agree.py cuts "$out/wirebytes" "$out/sigrok" "$out/wires/brief_combined.bin"
     try sigrok_listed python3 tests/sigrok_agree.py listed "$out/wirebytes" "$out/sigrok"
 }
@@ -189,21 +216,25 @@ bench_checked() { # each way of feeding, at some samples per clock, and the wire
     "$out/checked_wire" counted 4 "$out/bench_wire"
 }
 checked() {
-    try checked_replay "$out/checked_replay" tests/vectors/request-4.txt
+    try checked_replay "$out/checked_replay" tests/vectors/request-9.txt
     try checked_agree "$out/checked_agree" 40000
     try checked_checks "$out/checked_checks"
     try checked_dense "$out/checked_dense" 200000
     try checked_sequences "$out/checked_sequences"
-    try checked_captures same_reports "$out/checked_capture" report -
+    try checked_captures same_reports "$out/captures" "$out/checked_capture" report -
+    try checked_captures_ten_bit same_ten_bit "$out/checked_second_ten_bit"
+    try checked_second_ten_bit same_picture ten_bit "$out/checked_second_ten_bit"
     try checked_cut "$out/checked_cut" "$out"/wires/brief_*.bin
     try checked_wirebytes "$out/checked_wirebytes" "$out/sigrok/random.bin"
     try checked_wirebytes_s "$out/checked_wirebytes" -s "$out/sigrok/random.bin"
     try checked_refusals "$out/checked_refusals"
+    try checked_ten_bit_rules "$out/checked_ten_bit_rules"
     try checked_mangle "$out/checked_mangle" 100000
     if [ -z "$RUN" ]; then
         try checked_compare "$out/checked_compare" 200000
         try checked_bench bench_checked
-        try checked_lanes same_lanes "$out/checked_lanes"
+        try checked_lanes same_picture lanes "$out/checked_lanes"
+        try checked_ten_bit same_picture ten_bit "$out/checked_ten_bit"
     fi
 }
 

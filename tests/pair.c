@@ -65,6 +65,9 @@ static second_view view_of_archive(wherryoar_view a)
     v.due = a.due;
     v.n = a.n;
     v.pointer = a.pointer;
+    v.which = a.which;
+    v.next = a.next;
+    v.full = a.full;
     return v;
 }
 
@@ -75,7 +78,8 @@ static int same_view(const second_view *a, const second_view *b)
         && a->con2 == b->con2 && a->con3 == b->con3 && a->add == b->add && a->msk == b->msk && a->flag == b->flag
         && a->scl_pulled == b->scl_pulled && a->sda_pulled == b->sda_pulled && a->phase == b->phase
         && a->bits == b->bits && a->byte == b->byte && a->refused == b->refused && a->wire == b->wire
-        && a->mark == b->mark && a->due == b->due && a->n == b->n && a->pointer == b->pointer;
+        && a->mark == b->mark && a->due == b->due && a->n == b->n && a->pointer == b->pointer
+        && a->which == b->which && a->next == b->next && a->full == b->full;
 }
 
 /* ---- One step on one side ---- */
@@ -136,10 +140,16 @@ static pair_outcome second_call_for(pair_side *a, const pair_step *s)
 
 /* ---- Both sides ---- */
 
-/* For the test of the test: one bit of the archive's side turned over once a byte has been sent up to its second bit. */
+/* For the test of the test: one bit of the archive's side turned over once a byte has been sent up to its second bit, or in the
+   hold for ADD what follows it. */
 static void spoil(pair *p)
 {
-    if (p->second.view.refusal != 0 || p->second.view.phase != 6 || p->second.view.bits != 1)
+    const second_view *v = &p->second.view;
+    int sending = v->refusal == 0 && v->phase == 6 && v->bits == 1, hold_for_add = v->refusal == 0 && v->phase == 8;
+
+    if (p->spoiled == PAIR_TEN_BITS && hold_for_add)
+        p->archive.view.next ^= 0x01;
+    if (!sending)
         return;
     if (p->spoiled == PAIR_ANSWER)
         p->archive.outcome.item ^= 1;

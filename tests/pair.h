@@ -31,8 +31,8 @@ typedef struct {
     uint64_t refusal, value, item, start, length;
 } pair_outcome;
 
-/* Where the two differ; PAIR_SAME where they do not. */
-enum { PAIR_SAME, PAIR_ANSWER, PAIR_STATE, PAIR_MEMORY, PAIR_VIEW };
+/* Where the two differ; PAIR_SAME where they do not. The last is none of these, but a part of the view that can be spoiled. */
+enum { PAIR_SAME, PAIR_ANSWER, PAIR_STATE, PAIR_MEMORY, PAIR_VIEW, PAIR_TEN_BITS };
 
 /* One program's state and memory. */
 typedef struct {

@@ -1,6 +1,7 @@
 /* Checks through the door every refusal by each of its causes, alone and beside every other, and windows at every edge. */
 #include "door.h"
 #include "hits.h"
+#include "modes.h"
 #include "slots.h"
 #include "write_refusal.h"
 
@@ -10,7 +11,9 @@
 enum { BUF, STAT, CON1, CON2, CON3, ADD, MSK, FLAG, REGISTERS };
 
 /* Places in an image after the eight registers. */
-enum { AT_PHASE = 8, AT_COUNT, AT_BYTE, AT_PART, AT_WIRE, AT_MARK, AT_GAP, AT_N = 16, AT_POINTER = 18, AT_DUE = 20, AT_REST };
+enum {
+    AT_PHASE = 8, AT_COUNT, AT_BYTE, AT_PART, AT_WIRE, AT_MARK, AT_WHICH, AT_FULL, AT_N, AT_POINTER = 18, AT_DUE = 20, AT_REST
+};
 
 enum { GUARD = 16, LONGEST = 64, ROOM = GUARD + LONGEST + GUARD, FILLER = 0x5A, BUFFER = 320, N = 32, LONG_TRACE = 70000 };
 
@@ -20,11 +23,23 @@ enum {
     PULLING, REFUSED, DECLINED, HELD_SENDING, SENDING, MASTER_ACK, STATES
 };
 
-/* The holds, and the slots: pulling, refused, declined. */
-static const uint8_t holds[4] = {HELD_DATA, HELD_BEFORE, HELD_REFUSED, HELD_SENDING}, slots[3] = {PULLING, REFUSED, DECLINED};
+/* The same of ten bits: a high byte, the hold for ADD, a low byte and what becomes of it, data, and a high byte that asks to
+   send. */
+enum {
+    TEN_FRESH = STATES, TEN_OFF, TEN_MARKED, TEN_WHOLE, TEN_HELD_HIGH, TEN_HIGH, TEN_HIGH_REFUSED, ADD_THEN_LOW,
+    LOW_NONE, LOW_BITS, LOW_WHOLE, LOW_HELD, LOW_PULLING, LOW_MISSED, LOW_REFUSED, ADD_THEN_QUIET, ADD_THEN_DATA,
+    TEN_DATA, TEN_HELD_DATA, TEN_FULL, ASKING_HELD, ASKING, ASKING_REFUSED, TEN_HELD_SENDING, TEN_SENDING, KINDS
+};
 
-/* All of them with SSPM 0110, behind them all with SSPM 1110, and behind these both once more with WCOL and SSPOV 1. */
-enum { WITH_1110 = STATES, WITH_WCOL_SSPOV = 2 * STATES, ALL_STATES = 4 * STATES };
+/* The holds that CKP ends, the ones for ADD, and the slots: pulling, refused, declined. */
+static const uint8_t holds[9] = {HELD_DATA, HELD_BEFORE, HELD_REFUSED, HELD_SENDING, TEN_HELD_HIGH, LOW_HELD, ASKING_HELD,
+                                 TEN_HELD_DATA, TEN_HELD_SENDING};
+static const uint8_t holds_for_add[3] = {ADD_THEN_QUIET, ADD_THEN_LOW, ADD_THEN_DATA}; /* in the order of their numbers */
+static const uint8_t slots[3] = {PULLING, REFUSED, DECLINED};
+
+/* All of them with SSPM 0110 and 0111, behind them all with SSPM 1110 and 1111, and behind these both once more with WCOL and
+   SSPOV 1. */
+enum { WITH_FLAGS = KINDS, WITH_WCOL_SSPOV = 2 * KINDS, ALL_STATES = 4 * KINDS };
 
 static uint8_t states[ALL_STATES][DOOR_IMAGE];
 static uint8_t room[ROOM], kept[ROOM], buffer[BUFFER], untouched[BUFFER], trace[LONG_TRACE];
@@ -76,32 +91,46 @@ static void put(uint8_t *state, uint32_t number, uint8_t value)
     expect(door.write(state, DOOR_IMAGE, number, value).refusal == 0, "a write that is taken", number * 256ul + value);
 }
 
+/* One item of a way to a state: a level, h a handler call, b a read of BUF, k CKP written 1, and for ten bits l and u: ADD
+   written with the low byte, 5A, and with the high byte, 30. */
+static void take_item(uint8_t *state, char letter)
+{
+    uint8_t item = (uint8_t)(letter == 'h' ? 4 : letter - '0');
+
+    if (letter == 'b')
+        expect(door.read(state, DOOR_IMAGE, BUF).refusal == 0, "a read of BUF", 0);
+    else if (letter == 'k')
+        put(state, CON1, (uint8_t)(state[CON1] | 0x10));
+    else if (letter == 'l' || letter == 'u')
+        put(state, ADD, letter == 'l' ? 0x5A : 0x30);
+    else if (letter != ' ')
+        expect(door.run(state, DOOR_IMAGE, buffer, BUFFER, 0, N, &item, 1).refusal == 0, "run", 0);
+}
+
 /* A state that these writes to CON2 and CON3 and these items lead to, from a fresh one; it has to come to this phase. Its
    mode is stored while disabled, since it cannot be changed under way. */
 static void reach_one(int which, uint8_t con2, uint8_t con3, const char *items, int phase)
 {
-    uint8_t *state = states[which], mode = which < WITH_1110 ? 0x06 : 0x0E;
+    uint8_t *state = states[which];
+    int ten = which % KINDS >= TEN_FRESH, flagged = which >= WITH_FLAGS;
+    uint8_t mode = modes_all[2 * ten + flagged];
 
     expect(door.setup(state, DOOR_IMAGE, 0x30, N).refusal == 0, "setup", 0);
     put(state, CON1, mode);
     put(state, CON1, 0x30 | mode);
     put(state, CON2, con2);
     put(state, CON3, con3);
-    for (; *items != '\0'; items++) {
-        uint8_t item = (uint8_t)(*items == 'h' ? 4 : *items - '0');
-
-        if (*items != ' ')
-            expect(door.run(state, DOOR_IMAGE, buffer, BUFFER, 0, N, &item, 1).refusal == 0, "run", 0);
-    }
+    for (; *items != '\0'; items++)
+        take_item(state, *items);
     expect(door.look(state, DOOR_IMAGE).phase == phase, "a state of its phase", (unsigned long)which);
     expect((state[CON1] & 0x2F) == (0x20 | mode), "a state of its mode", (unsigned long)which);
 }
 
-/* The state in both modes. */
+/* The state in both modes of its address bits. */
 static void reach(int which, uint8_t con2, uint8_t con3, const char *items, int phase)
 {
     reach_one(which, con2, con3, items, phase);
-    reach_one(WITH_1110 + which, con2, con3, items, phase);
+    reach_one(WITH_FLAGS + which, con2, con3, items, phase);
 }
 
 /* All states once more, with WCOL and SSPOV put in: no trace brings SSPOV into every phase. */
@@ -113,6 +142,47 @@ static void set_wcol_and_sspov(void)
         memcpy(states[WITH_WCOL_SSPOV + i], states[i], DOOR_IMAGE);
         states[WITH_WCOL_SSPOV + i][CON1] |= 0xC0;
     }
+}
+
+/* 30 as a high byte up to its eighth fall, its ninth clock, BUF read and ADD written; 5A, 0101 1010, as the low byte; the two
+   together up to data; and 31 after a Restart. */
+#define TEN_HIGH_BYTE "32 0 20 20 31 31 20 20 20 20 "
+#define TO_LOW TEN_HIGH_BYTE "31 b l "
+#define LOW_BYTE "20 31 20 31 31 20 31 20 "
+#define TO_DATA TO_LOW LOW_BYTE "31 b u "
+#define TO_DATA_BY_HOLDS TEN_HIGH_BYTE "b k 31 l " LOW_BYTE "b k 31 u "
+#define ASKING_BYTE "1 3 2 0 20 20 31 31 20 20 20 31 "
+
+/* Those of ten bits. */
+static void reach_ten_bits(void)
+{
+    reach(TEN_FRESH, 0x01, 0x00, "", DOOR_QUIET);
+    reach(TEN_OFF, 0x01, 0x00, "3", DOOR_QUIET);
+    put(states[TEN_OFF], CON1, 0x07);
+    put(states[WITH_FLAGS + TEN_OFF], CON1, 0x0F);
+    reach(TEN_MARKED, 0x01, 0x00, "32", DOOR_ADDRESS);
+    reach(TEN_WHOLE, 0x01, 0x00, "32 0 20 20 31 31 20 20 20 2", DOOR_ADDRESS);
+    reach(TEN_HELD_HIGH, 0x01, 0x02, TEN_HIGH_BYTE, DOOR_HELD_BEFORE);
+    reach(TEN_HIGH, 0x01, 0x00, TEN_HIGH_BYTE, DOOR_SLOT);
+    reach(TEN_HIGH_REFUSED, 0x01, 0x00, TEN_HIGH_BYTE "31 u 1" TEN_HIGH_BYTE, DOOR_SLOT);
+    reach(ADD_THEN_LOW, 0x01, 0x00, TEN_HIGH_BYTE "31", DOOR_HELD_ADD);
+    reach(LOW_NONE, 0x01, 0x00, TO_LOW, DOOR_ADDRESS);
+    reach(LOW_BITS, 0x01, 0x00, TO_LOW "31 31 2", DOOR_ADDRESS);
+    reach(LOW_WHOLE, 0x01, 0x00, TO_LOW "20 31 20 31 31 20 31 2", DOOR_ADDRESS);
+    reach(LOW_HELD, 0x01, 0x02, TEN_HIGH_BYTE "b k 31 l" LOW_BYTE, DOOR_HELD_BEFORE);
+    reach(LOW_PULLING, 0x01, 0x00, TO_LOW LOW_BYTE, DOOR_SLOT);
+    reach(LOW_MISSED, 0x01, 0x02, TEN_HIGH_BYTE "b k 31 u" LOW_BYTE, DOOR_SLOT);
+    reach(LOW_REFUSED, 0x01, 0x00, TEN_HIGH_BYTE "31 l" LOW_BYTE, DOOR_SLOT);
+    reach(ADD_THEN_QUIET, 0x01, 0x00, TEN_HIGH_BYTE "31 b u" LOW_BYTE "31", DOOR_HELD_ADD);
+    reach(ADD_THEN_DATA, 0x01, 0x00, TO_LOW LOW_BYTE "31", DOOR_HELD_ADD);
+    reach(TEN_DATA, 0x01, 0x00, TO_DATA, DOOR_DATA);
+    reach(TEN_HELD_DATA, 0x01, 0x00, TO_DATA LOW_BYTE "31", DOOR_DATA);
+    reach(TEN_FULL, 0x01, 0x00, TO_DATA "1 3 2", DOOR_ADDRESS);
+    reach(ASKING_HELD, 0x01, 0x02, TO_DATA_BY_HOLDS ASKING_BYTE, DOOR_HELD_BEFORE);
+    reach(ASKING, 0x01, 0x00, TO_DATA ASKING_BYTE, DOOR_SLOT);
+    reach(ASKING_REFUSED, 0x00, 0x00, TO_DATA LOW_BYTE "31" ASKING_BYTE, DOOR_SLOT);
+    reach(TEN_HELD_SENDING, 0x01, 0x00, TO_DATA ASKING_BYTE "31", DOOR_HELD_SENDING);
+    reach(TEN_SENDING, 0x01, 0x00, TO_DATA ASKING_BYTE "31 h 31 31", DOOR_SENDING);
 }
 
 /* All of them: 30 is 0011 0000, 31 is 0011 0001. */
@@ -127,7 +197,7 @@ static void reach_all(void)
     reach(FRESH, 0x01, 0x00, "", DOOR_QUIET);
     reach(OFF, 0x01, 0x00, "3", DOOR_QUIET);
     put(states[OFF], CON1, 0x06);
-    put(states[WITH_1110 + OFF], CON1, 0x0E);
+    put(states[WITH_FLAGS + OFF], CON1, 0x0E);
     reach(MARKED, 0x01, 0x00, "32", DOOR_ADDRESS);
     reach(ADDRESS_BITS, 0x01, 0x00, "32 0 20 31 2", DOOR_ADDRESS);
     reach(ADDRESS_WHOLE, 0x01, 0x00, "32 0 20 20 31 31 20 20 20 2", DOOR_ADDRESS);
@@ -142,25 +212,27 @@ static void reach_all(void)
     reach(HELD_SENDING, 0x01, 0x00, to_sending, DOOR_HELD_SENDING);
     reach(SENDING, 0x01, 0x00, "32 0 20 20 31 31 20 20 20 31 31 h 31 31 31", DOOR_SENDING);
     reach(MASTER_ACK, 0x01, 0x00, "32 0 20 20 31 31 20 20 20 31 31 h 31 31 31 31 31 31 31 31", DOOR_MASTER_ACK);
+    reach_ten_bits();
     set_wcol_and_sspov();
 }
 
 /* ---- Refusal 6: the bytes are no state's image ---- */
 
-/* Every call refuses the bytes in the room with 6, whatever else is wrong with it, and leaves all alone. Of the two modes
-   written to CON1 one is a change under way. */
+/* Every call refuses the bytes in the room with 6, whatever else is wrong with it, and leaves all alone. Of the modes written
+   to CON1 one is none, and most are a change under way. */
 static void all_refuse(size_t length, const char *what, unsigned long more)
 {
-    static const uint8_t numbers[6] = {CON3, CON2, CON1, CON1, CON1, 8}, values[6] = {0x00, 0x1E, 0x2F, 0x36, 0x3E, 0xFF};
-    static const uint8_t levels[6] = {0, 1, 2, 3, 4, 255}, bad[3] = {3, 5, 4};
-    static const uint8_t first_bytes[6] = {0x00, 0x01, 0x30, 0x31, 0x3E, 0xFF};
+    static const uint8_t numbers[8] = {CON3, CON2, CON1, CON1, CON1, CON1, MSK, 8};
+    static const uint8_t values[8] = {0x00, 0x1E, 0x25, 0x36, 0x3E, 0x2F, 0xF0, 0xFF};
+    static const uint8_t levels[8] = {0, 1, 2, 3, 4, 5, 254, 255}, bad[3] = {3, 5, 4};
+    static const uint8_t first_bytes[8] = {0x00, 0x01, 0x30, 0x31, 0x3E, 0x5A, 0xF0, 0xFF};
     static const uint64_t starts[3] = {7, BUFFER, UINT64_MAX}, lengths[3] = {N, 0, UINT64_MAX};
     unsigned i, j;
 
     causes++;
     memcpy(kept, room, ROOM);
     expect(door.look(image, length).refusal == 6 && left_alone(), what, more);
-    for (i = 0; i < 6; i++) {
+    for (i = 0; i < 8; i++) {
         expect(refused(door.read(image, length, numbers[i]), 6, 0), what, more);
         expect(refused(door.write(image, length, numbers[i], values[i]), 6, 0), what, more);
         expect(refused(door.sample(image, length, levels[i]), 6, 0), what, more);
@@ -202,10 +274,27 @@ static void spoil_registers(void)
     for (i = 1; i < 8; i++)
         spoil(FRESH, FLAG, 0xFF, 1u << i, "a flag bit above SSPIF");
     for (i = 0; i < 16; i++)
-        if (i != 6 && i != 14)
+        if (!mode_can_run(i))
             spoil(FRESH, CON1, 0xF0, i, "SSPEN 1 with another mode");
-    spoil_range(OFF, AT_PHASE, 1, 7, "SSPEN 0 with a phase");
+    spoil_range(OFF, AT_PHASE, 1, 8, "SSPEN 0 with a phase");
+    spoil_range(TEN_OFF, AT_PHASE, 1, 8, "SSPEN 0 with a phase");
     spoil(MARKED, CON1, 0xDF, 0, "SSPEN 0 with a mark");
+}
+
+/* What the paper says of the mask and of UA: no state that runs with ten bits has another MSK than FF, and UA is no bit of an
+   image, in the hold for ADD neither. */
+static void spoil_ten_bit_registers(void)
+{
+    unsigned i, bit;
+
+    for (i = TEN_FRESH; i < KINDS; i++) {
+        for (bit = 0; bit < 8 && i != TEN_OFF; bit++)
+            spoil((int)i, MSK, 0xFFu ^ 1u << bit, 0, "ten bits run with a mask");
+        spoil((int)i, STAT, 0xFF, 0x02, "UA in an image");
+    }
+    spoil_range(TEN_FRESH, MSK, 0, 254, "ten bits run with a mask");
+    spoil_range(WITH_FLAGS + TEN_FRESH, MSK, 0, 254, "ten bits run with a mask");
+    spoil_range(ADD_THEN_LOW, MSK, 0, 254, "ten bits held for ADD with a mask");
 }
 
 /* What the paper says of mark, wire and hold. */
@@ -225,24 +314,82 @@ static void spoil_conditions(void)
     spoil_range(DATA_WHOLE, AT_WIRE, 0, 1, "8 bits of data with SCL low");
     spoil(DATA_WHOLE, AT_WIRE, 0, 255, "8 bits of data with no wire");
     spoil_range(FRESH, AT_WIRE, 4, 254, "a wire above 3");
-    for (i = 0; i < 4; i++)
+    for (i = 0; i < 9; i++)
         spoil(holds[i], CON1, 0xFF, 0x10, "a hold with CKP 1");
+    spoil_range(LOW_WHOLE, AT_WIRE, 0, 1, "8 bits of a low byte with SCL low");
+    spoil(LOW_WHOLE, AT_WIRE, 0, 255, "8 bits of a low byte with no wire");
+    spoil_range(TEN_MARKED, AT_COUNT, 1, 8, "a mark with bits of a high byte");
+    spoil(LOW_NONE, AT_MARK, 0, 1, "a mark before a low byte with SCL low");
+    spoil(LOW_BITS, AT_MARK, 0, 1, "a mark with bits of a low byte");
+    for (i = 0; i < 3; i++)
+        spoil(holds_for_add[i], AT_MARK, 0, 1, "a mark in a hold for ADD");
+}
+
+/* What only ten bits have, where seven run or none: the hold for ADD, a byte of theirs, the full match. */
+static void spoil_modes(void)
+{
+    static const uint8_t theirs[15] = {TEN_HELD_HIGH, TEN_HIGH, TEN_HIGH_REFUSED, ADD_THEN_LOW, LOW_NONE, LOW_BITS, LOW_WHOLE,
+                                       LOW_HELD, LOW_PULLING, LOW_MISSED, LOW_REFUSED, ADD_THEN_QUIET, ASKING_HELD, ASKING,
+                                       ASKING_REFUSED};
+    static const uint8_t full[6] = {ADD_THEN_DATA, TEN_DATA, TEN_HELD_DATA, TEN_FULL, TEN_HELD_SENDING, TEN_SENDING};
+    int i, flagged;
+
+    for (flagged = 0; flagged <= WITH_FLAGS; flagged += WITH_FLAGS) {
+        for (i = 0; i < 15; i++)
+            spoil(flagged + theirs[i], CON1, 0xFE, 0, "a phase of ten bits with seven");
+        for (i = 0; i < 6; i++)
+            spoil(flagged + full[i], CON1, 0xFE, 0, "the full match with seven bits");
+        for (i = FRESH; i < STATES; i++)
+            spoil(flagged + i, AT_FULL, 0, 1, "the full match with seven bits");
+        spoil(flagged + TEN_OFF, AT_FULL, 0, 1, "the full match while off");
+        spoil(flagged + FRESH, AT_PHASE, 0, DOOR_HELD_ADD, "a hold for ADD with seven bits");
+        for (i = 0; i < 3; i++)
+            spoil(flagged + holds_for_add[i], CON1, 0xDF, 0, "a hold for ADD while off");
+    }
+    spoil_range(PULLING, AT_WHICH, 1, 3, "a slot of seven bits with a byte of ten");
+    spoil_range(HELD_BEFORE, AT_WHICH, 1, 3, "a hold of seven bits with a byte of ten");
+    spoil(ADDRESS_BITS, AT_WHICH, 0, BYTE_LOW, "a low byte with seven bits");
+}
+
+/* Which byte a phase belongs to, what follows it, and the full match, each out of its range. */
+static void spoil_which(void)
+{
+    static const uint8_t without[10] = {FRESH, OFF, DATA_BITS, HELD_DATA, HELD_SENDING, SENDING, MASTER_ACK, TEN_FRESH,
+                                        TEN_DATA, TEN_HELD_DATA};
+    static const uint8_t with[9] = {TEN_HELD_HIGH, LOW_HELD, ASKING_HELD, TEN_HIGH, LOW_PULLING, LOW_MISSED, LOW_REFUSED,
+                                    ASKING, ASKING_REFUSED};
+    static const uint8_t addresses[6] = {TEN_MARKED, TEN_WHOLE, LOW_NONE, LOW_BITS, LOW_WHOLE, TEN_FULL};
+    int i;
+
+    for (i = 0; i < 10; i++)
+        spoil_range(without[i], AT_WHICH, 1, 255, "a byte of ten bits where the phase has none");
+    for (i = 0; i < 9; i++)
+        spoil_range(with[i], AT_WHICH, BYTES, 255, "a byte above 3");
+    for (i = 0; i < 6; i++) {
+        spoil(addresses[i], AT_WHICH, 0, BYTE_HIGH, "an address under way that is a high byte's already");
+        spoil_range(addresses[i], AT_WHICH, BYTE_HIGH_TO_SEND, 255, "an address of no byte");
+    }
+    for (i = 0; i < 3; i++)
+        spoil_range(holds_for_add[i], AT_WHICH, NEXTS, 255, "a hold for ADD with nothing that follows");
+    for (i = 0; i < KINDS; i++)
+        spoil_range(i, AT_FULL, 2, 255, "a full match above 1");
 }
 
 /* A phase with parts that are not its own, or out of their range. */
 static void spoil_parts(void)
 {
-    static const uint8_t bare[9] = {FRESH, HELD_BEFORE, HELD_REFUSED, PULLING, REFUSED, DECLINED, HELD_SENDING, MASTER_ACK,
-                                    HELD_DATA};
-    static const uint8_t without[5] = {FRESH, ADDRESS_BITS, HELD_SENDING, SENDING, MASTER_ACK};
+    static const uint8_t bare[15] = {FRESH, HELD_BEFORE, HELD_REFUSED, PULLING, REFUSED, DECLINED, HELD_SENDING, MASTER_ACK,
+                                     HELD_DATA, ADD_THEN_QUIET, ADD_THEN_LOW, ADD_THEN_DATA, LOW_HELD, LOW_MISSED, ASKING};
+    static const uint8_t without[9] = {FRESH, ADDRESS_BITS, HELD_SENDING, SENDING, MASTER_ACK, ADD_THEN_QUIET, ADD_THEN_LOW,
+                                       ADD_THEN_DATA, LOW_BITS};
     static const uint8_t with[3] = {HELD_DATA, HELD_BEFORE, HELD_REFUSED};
     unsigned i;
 
-    for (i = 0; i < 9; i++) {
+    for (i = 0; i < 15; i++) {
         spoil_range(bare[i], AT_COUNT, 1, 255, "a count where the phase has none");
         spoil_range(bare[i], AT_BYTE, 1, 255, "a byte where the phase has none");
     }
-    for (i = 0; i < 5; i++)
+    for (i = 0; i < 9; i++)
         spoil_range(without[i], AT_PART, 1, 255, "held, refused or a slot's case where the phase has none");
     for (i = 0; i < 3; i++)
         spoil_range(with[i], AT_PART, 2, 255, "held or refused above 1");
@@ -252,7 +399,9 @@ static void spoil_parts(void)
     spoil_range(ADDRESS_WHOLE, AT_COUNT, 9, 255, "more than 8 bits of an address");
     spoil_range(DATA_WHOLE, AT_COUNT, 9, 255, "more than 8 bits of data");
     spoil_range(SENDING, AT_COUNT, 8, 255, "a place above 7");
-    spoil_range(FRESH, AT_PHASE, 8, 255, "a phase above 7");
+    spoil_range(LOW_WHOLE, AT_COUNT, 9, 255, "more than 8 bits of a low byte");
+    spoil_range(FRESH, AT_PHASE, 9, 255, "a phase above 8");
+    spoil_range(TEN_FRESH, AT_PHASE, 9, 255, "a phase above 8");
 }
 
 /* A slot's case: 0, which a slot that does not pull had in older images, and all above 3 are none. */
@@ -280,9 +429,8 @@ static void spoil_rest(void)
     spoil_range(FRESH, AT_POINTER, N, 255, "a pointer not below n");
     spoil_range(FRESH, AT_POINTER + 1, 1, 255, "a pointer of two bytes");
     spoil_range(FRESH, AT_DUE, 2, 255, "due above 1");
-    for (i = AT_GAP; i < DOOR_IMAGE; i++)
-        if (i < AT_N || i >= AT_REST)
-            spoil_range(FRESH, i, 1, 255, "a byte that is not used");
+    for (i = AT_REST; i < DOOR_IMAGE; i++)
+        spoil_range(FRESH, i, 1, 255, "a byte that is not used");
     for (length = 0; length <= LONGEST; length++) {
         lay(states[MARKED]);
         if (length > DOOR_IMAGE)
@@ -318,19 +466,26 @@ static void both_take(const char *what, unsigned long more)
 /* The states themselves are taken, and so are the neighbours of what is refused. */
 static void neighbours(void)
 {
-    static const struct { uint8_t which, place, keep, set; } fine[14] = {
+    static const struct { uint8_t which, place, keep, set; } fine[] = {
         {FRESH, STAT, 0xFF, 0xF5}, {FRESH, CON2, 0xFF, 0xE1}, {FRESH, CON3, 0xFF, 0xEF}, {FRESH, FLAG, 0xFF, 1},
         {FRESH, CON1, 0xFF, 0x0E}, {FRESH, CON1, 0x00, 0xDF}, {MARKED, AT_WIRE, 0, 3}, {MARKED, AT_MARK, 0, 0},
         {ADDRESS_WHOLE, AT_BYTE, 0, 255}, {DATA_WHOLE, AT_WIRE, 0, 2}, {ADDRESS_BITS, AT_WIRE, 0, 255},
-        {SENDING, AT_COUNT, 0, 7}, {FRESH, AT_POINTER, 0, N - 1}, {FRESH, AT_DUE, 0, 1}
+        {SENDING, AT_COUNT, 0, 7}, {FRESH, AT_POINTER, 0, N - 1}, {FRESH, AT_DUE, 0, 1},
+        {FRESH, CON1, 0xFF, 0x07}, {FRESH, CON1, 0xFF, 0x0F}, {FRESH, MSK, 0, 0}, {TEN_OFF, MSK, 0, 0}, {TEN_OFF, MSK, 0, 0xFE},
+        {TEN_FRESH, AT_FULL, 0, 1}, {TEN_MARKED, AT_FULL, 0, 1}, {TEN_MARKED, AT_WHICH, 0, BYTE_LOW},
+        {LOW_NONE, AT_WIRE, 0, 255}, {LOW_WHOLE, AT_WIRE, 0, 3}, {LOW_WHOLE, STAT, 0xFF, 0x24},
+        {LOW_PULLING, STAT, 0xFF, 0x24}, {LOW_HELD, STAT, 0xFF, 0x24}, {ADD_THEN_LOW, STAT, 0xFF, 0xE5},
+        {ADD_THEN_LOW, CON1, 0xEF, 0}, {ADD_THEN_QUIET, CON1, 0xEF, 0}, {ADD_THEN_DATA, CON1, 0xEF, 0},
+        {ADD_THEN_QUIET, AT_FULL, 0, 1}, {ADD_THEN_DATA, AT_FULL, 0, 0}, {TEN_HIGH, AT_WHICH, 0, 0}, {ASKING, AT_FULL, 0, 0},
+        {ASKING, STAT, 0xDB, 0}
     };
-    int i;
+    int i, neighbours_of_refused = (int)(sizeof fine / sizeof fine[0]);
 
     for (i = 0; i < ALL_STATES; i++) {
         lay(states[i]);
         both_take("a state", (unsigned long)i);
     }
-    for (i = 0; i < 14; i++) {
+    for (i = 0; i < neighbours_of_refused; i++) {
         lay(states[fine[i].which]);
         image[fine[i].place] = (uint8_t)((image[fine[i].place] & fine[i].keep) | fine[i].set);
         both_take("the neighbour of a refused image", (unsigned long)i);
@@ -357,7 +512,7 @@ static void slot_cases(void)
     int i;
     uint8_t part;
 
-    for (i = 0; i < ALL_STATES; i += STATES) {
+    for (i = 0; i < ALL_STATES; i += KINDS) {
         expect(states[i + PULLING][AT_PART] == SLOT_PULLING, "a slot that pulls", (unsigned long)i);
         expect(states[i + REFUSED][AT_PART] == SLOT_REFUSED, "a refused slot", (unsigned long)i);
         expect(states[i + DECLINED][AT_PART] == SLOT_DECLINED, "a declined slot", (unsigned long)i);
@@ -374,7 +529,54 @@ static void slot_cases(void)
     expect(door.look(states[HELD_BEFORE], DOOR_IMAGE).refused == 0, "a hold that is not refused is seen", 0);
 }
 
-/* ---- Refusals 1, 2, 3, 8 and 4 in single calls ---- */
+/* Which byte of ten bits, what follows and the full match, as a state that the door made has them. */
+static void ten_bit_parts(int which, unsigned byte, unsigned next, unsigned full)
+{
+    int i;
+
+    for (i = which; i < ALL_STATES; i += KINDS) {
+        door_view v = door.look(states[i], DOOR_IMAGE);
+
+        expect(v.which == byte && v.next == next && v.full == full, "the parts of ten bits in a view", (unsigned long)i);
+        expect(states[i][AT_WHICH] == byte + next && states[i][AT_FULL] == full, "and in an image", (unsigned long)i);
+        expect(!(v.stat & 0x02) == (v.phase != DOOR_HELD_ADD), "UA exactly in the hold for ADD", (unsigned long)i);
+        expect(door.read(states[i], DOOR_IMAGE, STAT).value == v.stat, "STAT as it is read", (unsigned long)i);
+    }
+}
+
+/* The same for each of them; and each byte in each phase, by hand. */
+static void ten_bit_cases(void)
+{
+    static const struct { uint8_t which, byte, next, full; } made[KINDS - STATES] = {
+        {TEN_FRESH, 0, 0, 0}, {TEN_OFF, 0, 0, 0}, {TEN_MARKED, 0, 0, 0}, {TEN_WHOLE, 0, 0, 0}, {TEN_HELD_HIGH, 1, 0, 0},
+        {TEN_HIGH, 1, 0, 0}, {TEN_HIGH_REFUSED, 1, 0, 0}, {ADD_THEN_LOW, 0, 1, 0}, {LOW_NONE, 2, 0, 0}, {LOW_BITS, 2, 0, 0},
+        {LOW_WHOLE, 2, 0, 0}, {LOW_HELD, 2, 0, 0}, {LOW_PULLING, 2, 0, 0}, {LOW_MISSED, 2, 0, 0}, {LOW_REFUSED, 2, 0, 0},
+        {ADD_THEN_QUIET, 0, 0, 0}, {ADD_THEN_DATA, 0, 2, 1}, {TEN_DATA, 0, 0, 1}, {TEN_HELD_DATA, 0, 0, 1},
+        {TEN_FULL, 0, 0, 1}, {ASKING_HELD, 3, 0, 1}, {ASKING, 3, 0, 1}, {ASKING_REFUSED, 3, 0, 1}, {TEN_HELD_SENDING, 0, 0, 1},
+        {TEN_SENDING, 0, 0, 1}
+    };
+    static const uint8_t phases[4] = {LOW_HELD, LOW_PULLING, LOW_REFUSED, LOW_MISSED};
+    uint8_t i, byte;
+
+    for (i = FRESH; i < STATES; i++)
+        ten_bit_parts(i, 0, 0, 0);
+    for (i = 0; i < KINDS - STATES; i++)
+        ten_bit_parts(made[i].which, made[i].byte, made[i].next, made[i].full);
+    for (i = 0; i < 4; i++)
+        for (byte = 0; byte < BYTES; byte++) {
+            lay(states[phases[i]]);
+            image[AT_WHICH] = byte;
+            expect(door.look(image, DOOR_IMAGE).which == byte, "a hold or slot of each byte", byte);
+        }
+    for (i = 0; i < 3; i++) {
+        lay(states[ADD_THEN_LOW]);
+        image[AT_WHICH] = i;
+        expect(door.look(image, DOOR_IMAGE).next == i, "a hold for ADD with each that follows", i);
+        expect(door.look(states[holds_for_add[i]], DOOR_IMAGE).scl_pulled == 1, "a hold for ADD pulls SCL", i);
+    }
+}
+
+/* ---- Refusals 1, 2, 3, 8, 9 and 4 in single calls ---- */
 
 /* A register number, or a level, by itself: read, and sampled. */
 static void number_alone(const uint8_t *state, uint32_t number)
@@ -426,41 +628,99 @@ static void single_calls(void)
 
 /* ---- Refusal 8: a change of mode under way ---- */
 
-/* Every SSPM stored while off, and every value written over it: either mode can be enabled, whatever stood there. */
+/* Every SSPM stored while off, and every value written over it, with no mask and with some: any of the four modes can be
+   enabled, whatever stood there, those of ten bits without a mask. */
 static void modes_while_off(void)
 {
+    static const uint8_t masks[6] = {0xFF, 0xFE, 0x7F, 0xEF, 0x01, 0x00};
     uint8_t off[DOOR_IMAGE];
-    uint8_t mode;
+    uint8_t mode, i;
 
-    for (mode = 0; mode < 16; mode++) {
-        memcpy(off, states[OFF], DOOR_IMAGE);
-        put(off, CON1, mode);
-        expect(off[CON1] == mode, "a mode stored while off", mode);
-        number_written(off, CON1);
+    for (mode = 0; mode < 16; mode++)
+        for (i = 0; i < 6; i++) {
+            memcpy(off, states[OFF], DOOR_IMAGE);
+            put(off, CON1, mode);
+            put(off, MSK, masks[i]);
+            expect(off[CON1] == mode && off[MSK] == masks[i], "a mode and a mask stored while off", mode);
+            number_written(off, CON1);
+            number_written(off, MSK);
+        }
+}
+
+/* A hold: a change of mode with CKP 1, or without, neither ends it nor clears WCOL and SSPOV. */
+static void mode_in_hold(const uint8_t *state)
+{
+    static const uint8_t others[3] = {0x08, 0x01, 0x09};
+    uint8_t same = (uint8_t)(0x30 | (state[CON1] & 0x0F));
+    int i;
+
+    lay(state);
+    for (i = 0; i < 3; i++) {
+        expect(refused(door.write(image, DOOR_IMAGE, CON1, same ^ others[i]), 8, 0), "a change of mode in a hold", same);
+        expect(refused(door.write(image, DOOR_IMAGE, CON1, same ^ others[i] ^ 0x10), 8, 0), "and with CKP 0", same);
+        expect(door.look(image, DOOR_IMAGE).scl_pulled == 1, "a hold that stays", same);
     }
 }
 
-/* A hold: a change of mode with CKP 1 neither ends it nor clears WCOL and SSPOV. With the mode that stands, CKP 1 ends it. */
-static void mode_in_hold(const uint8_t *state)
+/* With the mode that stands, CKP 1 ends a hold, but the one for ADD: that one ends by a write to ADD. */
+static void hold_ends(const uint8_t *state)
 {
-    uint8_t same = (uint8_t)(0x30 | (state[CON1] & 0x0F)), other = same ^ 0x08;
+    uint8_t same = (uint8_t)(0x30 | (state[CON1] & 0x0F));
+    int for_add = state[AT_PHASE] == DOOR_HELD_ADD;
 
     lay(state);
-    expect(refused(door.write(image, DOOR_IMAGE, CON1, other), 8, 0), "a change of mode in a hold", other);
-    expect(door.look(image, DOOR_IMAGE).scl_pulled == 1, "a hold that stays", other);
-    expect(done(door.write(image, DOOR_IMAGE, CON1, same)), "a release", same);
-    expect(door.look(image, DOOR_IMAGE).scl_pulled == 0 && image[CON1] == same, "a hold that ends", same);
+    expect(done(door.write(image, DOOR_IMAGE, CON1, same)) && image[CON1] == same, "CKP 1 in a hold", same);
+    expect(door.look(image, DOOR_IMAGE).scl_pulled == for_add, "a hold that ends by CKP 1, or one for ADD that stays", same);
+    lay(state);
+    expect(done(door.write(image, DOOR_IMAGE, ADD, 0x5A)) && image[ADD] == 0x5A, "ADD in a hold", same);
+    expect(door.look(image, DOOR_IMAGE).scl_pulled == !for_add, "a hold for ADD that ends, or another that stays", same);
 }
 
-/* Off with every SSPM, and each hold in both modes, WCOL and SSPOV 0 and 1. */
+/* Off with every SSPM, and each hold in both modes of its address bits, WCOL and SSPOV 0 and 1. */
 static void modes(void)
 {
     int i, j;
 
     modes_while_off();
-    for (i = 0; i < ALL_STATES; i += STATES)
-        for (j = 0; j < 4; j++)
+    for (i = 0; i < ALL_STATES; i += KINDS) {
+        for (j = 0; j < 9; j++) {
             mode_in_hold(states[i + holds[j]]);
+            hold_ends(states[i + holds[j]]);
+        }
+        for (j = 0; j < 3; j++) {
+            mode_in_hold(states[i + holds_for_add[j]]);
+            hold_ends(states[i + holds_for_add[j]]);
+        }
+    }
+}
+
+/* ---- Refusal 9: ten bits under a mask ---- */
+
+/* The causes of 9 and what comes before it, by hand: CON1 and MSK of a state that is quiet, then a write and its refusal. */
+static void masked(void)
+{
+    static const struct { uint8_t con1, msk, number, value, refusal; } rows[] = {
+        {0x16, 0xFE, CON1, 0x37, 9}, {0x16, 0xFE, CON1, 0x3F, 9}, {0x16, 0x00, CON1, 0x27, 9}, {0x17, 0x7F, CON1, 0xF7, 9},
+        {0x1F, 0xF0, CON1, 0x3F, 9}, {0x10, 0x01, CON1, 0x2F, 9}, {0x16, 0xFF, CON1, 0x37, 0}, {0x16, 0xFF, CON1, 0x3F, 0},
+        {0x16, 0xFE, CON1, 0x36, 0}, {0x17, 0xFE, CON1, 0x3E, 0}, {0x16, 0xFE, CON1, 0x17, 0}, {0x16, 0x00, CON1, 0x1F, 0},
+        {0x16, 0xFE, CON1, 0x35, 3}, {0x16, 0xFE, CON1, 0x38, 3}, {0x36, 0xFE, CON1, 0x37, 8}, {0x3E, 0x00, CON1, 0x3F, 8},
+        {0x36, 0xFE, CON1, 0x3F, 8}, {0x36, 0xFE, CON1, 0x34, 3}, {0x37, 0xFF, CON1, 0x3F, 8}, {0x37, 0xFF, CON1, 0x36, 8},
+        {0x37, 0xFF, CON1, 0x27, 0}, {0x3F, 0xFF, CON1, 0x0F, 0}, {0x37, 0xFF, MSK, 0xFE, 9}, {0x37, 0xFF, MSK, 0x00, 9},
+        {0x3F, 0xFF, MSK, 0xF0, 9}, {0x37, 0xFF, MSK, 0xFF, 0}, {0x17, 0xFF, MSK, 0xF0, 0}, {0x1F, 0x00, MSK, 0x0F, 0},
+        {0x36, 0xFF, MSK, 0xF0, 0}, {0x3E, 0x00, MSK, 0xFE, 0}, {0x37, 0xFF, CON2, 0x1E, 2}, {0x37, 0xFF, 8, 0xF0, 1}
+    };
+    size_t i;
+
+    for (i = 0; i < sizeof rows / sizeof rows[0]; i++) {
+        door_answer a;
+
+        lay(states[FRESH]);
+        image[CON1] = rows[i].con1;
+        image[MSK] = rows[i].msk;
+        memcpy(kept, room, ROOM);
+        a = door.write(image, DOOR_IMAGE, rows[i].number, rows[i].value);
+        expect(rows[i].refusal ? refused(a, rows[i].refusal, 0) : done(a), "ten bits and a mask", (unsigned long)i);
+    }
 }
 
 /* ---- Refusal 5: windows at every edge ---- */
@@ -636,13 +896,18 @@ int main(void)
     reach_all();
     neighbours();
     slot_cases();
+    ten_bit_cases();
     spoil_registers();
+    spoil_ten_bit_registers();
     spoil_conditions();
+    spoil_modes();
+    spoil_which();
     spoil_parts();
     spoil_slots();
     spoil_rest();
     single_calls();
     modes();
+    masked();
     windows();
     traces();
     finder();

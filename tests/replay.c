@@ -4,9 +4,9 @@
 #include <stdio.h>
 #include <string.h>
 
-enum { LINE = 2048, TEXT = 256, GUARD = 16, MEMORY = 256, BUFFER = GUARD + MEMORY + GUARD, STRETCH = 4096 };
+enum { LINE = 4096, TEXT = 256, GUARD = 16, MEMORY = 256, BUFFER = GUARD + MEMORY + GUARD, STRETCH = 4096 };
 
-enum { GUARD_BYTE = 0x5A, NO_WIRE = 255, HANDLER_CALL = 4, HIGHEST_REFUSAL = 8 };
+enum { GUARD_BYTE = 0x5A, NO_WIRE = 255, HANDLER_CALL = 4, HIGHEST_REFUSAL = 9 };
 
 /* A state image with the buffer whose window it works on. */
 typedef struct {
@@ -33,6 +33,7 @@ typedef struct {
 /* The replay as a whole. */
 typedef struct {
     scene live;              /* goes step by step */
+    uint8_t fresh[MEMORY];   /* the memory at the start of the case */
     scene before;            /* as live was when the stretch began */
     uint8_t trace[STRETCH];  /* the items of the stretch */
     size_t trace_length;
@@ -141,36 +142,48 @@ static int yes_no(const char **p, int *value)
     return 1;
 }
 
-/* The phase with its parts. */
-static int phase(const char **p, sight *s)
+/* The phases by their words, in the order of their numbers. */
+static const char *const phase_words[DOOR_PHASES] = {
+    "quiet", "address:", "data:", "before:", "slot:", "load", "send:", "answer", "update:"
+};
+
+/* The parts of a phase. */
+static int parts(const char **p, sight *s)
 {
     door_view *v = &s->view;
 
-    if (word(p, "quiet"))
-        return v->phase = DOOR_QUIET, 1;
-    if (word(p, "load"))
-        return v->phase = DOOR_HELD_SENDING, 1;
-    if (word(p, "answer"))
-        return v->phase = DOOR_MASTER_ACK, 1;
-    if (word(p, "address:")) {
-        v->phase = DOOR_ADDRESS;
-        return decimal_field(p, 8, &v->bits) && word(p, ":") && hex_field(p, &v->byte);
-    }
-    if (word(p, "data:")) {
-        v->phase = DOOR_DATA;
+    switch (v->phase) {
+    case DOOR_ADDRESS:
+        return decimal_field(p, 8, &v->bits) && word(p, ":") && hex_field(p, &v->byte) && word(p, ":")
+            && decimal_field(p, 3, &v->which);
+    case DOOR_DATA:
         return decimal_field(p, 8, &v->bits) && word(p, ":") && hex_field(p, &v->byte) && word(p, ":")
             && yes_no(p, &s->held);
+    case DOOR_HELD_BEFORE:
+        return decimal_field(p, 1, &v->refused) && word(p, ":") && decimal_field(p, 3, &v->which);
+    case DOOR_SLOT:
+        return yes_no(p, &s->pulling) && word(p, ":") && decimal_field(p, 1, &v->refused) && word(p, ":")
+            && decimal_field(p, 3, &v->which);
+    case DOOR_SENDING:
+        return hex_field(p, &v->byte) && word(p, ":") && decimal_field(p, 7, &v->bits);
+    case DOOR_HELD_ADD:
+        return decimal_field(p, 2, &v->next);
+    default:
+        return 1;
     }
-    if (word(p, "before:")) {
-        v->phase = DOOR_HELD_BEFORE;
-        return decimal_field(p, 1, &v->refused);
-    }
-    if (word(p, "slot:")) {
-        v->phase = DOOR_SLOT;
-        return yes_no(p, &s->pulling) && word(p, ":") && decimal_field(p, 1, &v->refused);
-    }
-    v->phase = DOOR_SENDING;
-    return word(p, "send:") && hex_field(p, &v->byte) && word(p, ":") && decimal_field(p, 7, &v->bits);
+}
+
+/* The phase with its parts. */
+static int phase(const char **p, sight *s)
+{
+    int i;
+
+    for (i = 0; i < DOOR_PHASES; i++)
+        if (word(p, phase_words[i])) {
+            s->view.phase = (uint8_t)i;
+            return parts(p, s);
+        }
+    return 0;
 }
 
 /* The remembered wire. */
@@ -205,7 +218,9 @@ static int seen(const char **p, unsigned n, sight *s)
         return 0;
     if (!(phase(p, s) && word(p, " ") && wire(p, &v->wire) && word(p, " ")))
         return 0;
-    if (!(decimal_field(p, 1, &v->mark) && word(p, " ") && decimal(p, 255, &pointer) && word(p, " ")))
+    if (!(decimal_field(p, 1, &v->mark) && word(p, " ") && decimal_field(p, 1, &v->full) && word(p, " ")))
+        return 0;
+    if (!(decimal(p, 255, &pointer) && word(p, " ")))
         return 0;
     v->pointer = (uint16_t)pointer;
     v->n = (uint16_t)n;
@@ -238,14 +253,36 @@ static int parse_step(const char *p, unsigned n, step *s)
     return seen(&p, n, &s->seen);
 }
 
-/* The memory's n bytes, to the end of the line. */
+/* The memory's first bytes, at least one, to the end of the line; they repeat until n are there. */
 static int memory(const char *p, unsigned n, uint8_t *bytes)
 {
-    unsigned i;
+    unsigned given = 0, i;
+    uint8_t byte;
 
-    for (i = 0; i < n; i++)
-        if (!hex_field(&p, &bytes[i]))
+    while (*p != '\0') {
+        if (!hex_field(&p, &byte))
             return 0;
+        if (given < n)
+            bytes[given] = byte;
+        given++;
+    }
+    for (i = given; given > 0 && i < n; i++)
+        bytes[i] = bytes[i - given];
+    return given > 0;
+}
+
+/* The places whose byte is another than at the start, each with that byte, to the end of the line; - where there is none. */
+static int changed(const char *p, unsigned n, uint8_t *bytes)
+{
+    unsigned place, value;
+
+    if (word(&p, "-"))
+        return *p == '\0';
+    do {
+        if (!decimal(&p, n - 1, &place) || !word(&p, ":") || !hex(&p, &value) || bytes[place] == value)
+            return 0;
+        bytes[place] = (uint8_t)value;
+    } while (word(&p, " "));
     return *p == '\0';
 }
 
@@ -258,12 +295,12 @@ static void render(const sight *s, char *text)
 
     snprintf(text, TEXT,
             "%02X %02X %02X %02X %02X %02X %02X %02X %c%c phase %u bits %u byte %02X refused %u"
-            " held %d pulling %d wire %u mark %u pointer %u due %u n %u refusal %lu",
+            " held %d pulling %d which %u next %u wire %u mark %u full %u pointer %u due %u n %u refusal %lu",
             v->buf, v->stat, v->con1, v->con2, v->con3, v->add, v->msk, v->flag,
             v->scl_pulled == 0 ? '.' : v->scl_pulled == 1 ? 'C' : '?',
             v->sda_pulled == 0 ? '.' : v->sda_pulled == 1 ? 'D' : '?',
-            v->phase, v->bits, v->byte, v->refused, s->held, s->pulling,
-            v->wire, v->mark, v->pointer, v->due, v->n, (unsigned long)v->refusal);
+            v->phase, v->bits, v->byte, v->refused, s->held, s->pulling, v->which, v->next,
+            v->wire, v->mark, v->full, v->pointer, v->due, v->n, (unsigned long)v->refusal);
 }
 
 /* Tells the first difference of a case; the rest of the case is then passed over. */
@@ -413,8 +450,9 @@ static int begin_case(replay *r, const char *p)
         return 0;
     memset(r->live.buffer, GUARD_BYTE, BUFFER);
     memset(r->live.image, GUARD_BYTE, DOOR_IMAGE);
-    if (!memory(p, n, r->live.buffer + GUARD))
+    if (!memory(p, n, r->fresh))
         return 0;
+    memcpy(r->live.buffer + GUARD, r->fresh, n);
     r->open = 1;
     r->failed = 0;
     r->n = n;
@@ -434,8 +472,11 @@ static int end_case(replay *r, const char *p)
 {
     uint8_t wanted[BUFFER];
 
+    if (!r->open || !word(&p, "end changed "))
+        return 0;
     memset(wanted, GUARD_BYTE, BUFFER);
-    if (!r->open || !word(&p, "end mem ") || !memory(p, r->n, wanted + GUARD))
+    memcpy(wanted + GUARD, r->fresh, r->n);
+    if (!changed(p, r->n, wanted + GUARD))
         return 0;
     end_stretch(r);
     if (going(r))

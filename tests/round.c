@@ -129,20 +129,21 @@ static void tell_bytes(const uint8_t *bytes, size_t length)
 /* The phase with its parts. */
 static void tell_phase(const second_view *v)
 {
-    static const char *const alone[8] = {"quiet", "", "", "", "", "load", "", "answer"};
+    static const char *const names[9] = {"quiet", "address", "data", "before", "slot", "load", "send", "answer", "update"};
 
+    printf("%s", v->phase < 9 ? names[v->phase] : "none");
     if (v->phase == 1)
-        printf("address:%u:%02X", v->bits, v->byte);
+        printf(":%u:%02X:%u", v->bits, v->byte, v->which);
     else if (v->phase == 2)
-        printf("data:%u:%02X:%u", v->bits, v->byte, v->scl_pulled);
+        printf(":%u:%02X:%u", v->bits, v->byte, v->scl_pulled);
     else if (v->phase == 3)
-        printf("before:%u", v->refused);
+        printf(":%u:%u", v->refused, v->which);
     else if (v->phase == 4)
-        printf("slot:%u:%u", v->sda_pulled, v->refused);
+        printf(":%u:%u:%u", v->sda_pulled, v->refused, v->which);
     else if (v->phase == 6)
-        printf("send:%02X:%u", v->byte, v->bits);
-    else
-        printf("%s", alone[v->phase & 7]);
+        printf(":%02X:%u", v->byte, v->bits);
+    else if (v->phase == 8)
+        printf(":%u", v->next);
 }
 
 /* All that is seen of a state. */
@@ -152,9 +153,10 @@ static void tell_view(const second_view *v)
            v->msk, v->flag, v->scl_pulled ? 'C' : '.', v->sda_pulled ? 'D' : '.');
     tell_phase(v);
     if (v->wire == NO_WIRE)
-        printf(" - %u %u %u", v->mark, v->pointer, v->due);
+        printf(" -");
     else
-        printf(" %u %u %u %u", v->wire, v->mark, v->pointer, v->due);
+        printf(" %u", v->wire);
+    printf(" %u %u %u %u", v->mark, v->full, v->pointer, v->due);
 }
 
 /* The window of a call or a run, where it is not the round's own. */
@@ -254,7 +256,19 @@ static void tell_difference(const pair *p, int differ)
     tell_byte("buffer", p->archive.buffer, p->second.buffer, PAIR_BUFFER);
     printf("# archive: ");
     tell_view(&p->archive.view);
-    printf("\n");
+    printf("; which %u next %u\n", p->archive.view.which, p->archive.view.next);
+}
+
+/* The line that ends a case: the places of the memory whose byte has changed, each with its byte. */
+static void tell_end(const uint8_t *before, const uint8_t *after, unsigned n)
+{
+    unsigned i;
+
+    printf("end changed");
+    for (i = 0; i < n; i++)
+        if (before[i] != after[i])
+            printf(" %u:%02X", i, after[i]);
+    printf("%s\n", memcmp(before, after, n) == 0 ? " -" : "");
 }
 
 /* The round as a case. */
@@ -277,8 +291,6 @@ size_t round_tell(const round_of_steps *r)
         printf("\n");
     }
     tell_difference(&p, differ);
-    printf("end mem ");
-    tell_bytes(p.second.buffer + r->start, r->n);
-    printf("\n");
+    tell_end(r->buffer + r->start, p.second.buffer + r->start, r->n);
     return r->count;
 }

@@ -47,8 +47,9 @@ through_the_door() { # through_the_door with_archive|with_second
     beside "mangle_$1" "$1" mangle tests/traffic.c "$mutations"
     beside "checks_$1" "$1" checks ""
     beside "refusals_$1" "$1" refusals ""
+    beside "ten_bit_rules_$1" "$1" ten_bit_rules ""
     beside "agree_$1" "$1" agree "tests/second/plain.c tests/traffic.c" 400000
-    beside "replay_$1" "$1" replay "" tests/vectors/request-4.txt
+    beside "replay_$1" "$1" replay "" tests/vectors/request-9.txt
 }
 
 # ---- Without the archive ----
@@ -91,7 +92,8 @@ report_cases() {
 # ---- With the archive ----
 
 # The archive and the second program side by side. Then the test of that test: a bit turned over in the archive's answer (1),
-# state (2), buffer (3) or view (4) has to be told, in a few steps that are a case of the stored form.
+# state (2), buffer (3) or view (4), or in its view in the hold for ADD (5), has to be told, in a few steps that are a case of
+# the stored form.
 build_compare() {
     $CC_ARCHIVE -std=c99 -O2 $strict -Iinclude -Itests -Itests/second -o "$out/compare" \
         tests/compare.c tests/round.c tests/pair.c tests/traffic.c "$out/second.o" "$archive"
@@ -104,7 +106,7 @@ compared() {
     local place
     try build_compare build_compare
     try compare $RUN "$out/compare" "$steps"
-    for place in 1 2 3 4; do
+    for place in 1 2 3 4 5; do
         try "spoiled_$place" spoiled "$place"
     done
 }
@@ -133,13 +135,14 @@ alone() {
     [ "$functions $others $calls $variables" = "9 0 0 0" ]
 }
 
-# Installed in a folder of its own, and from there the host in examples/.
+# Installed in a folder of its own, and from there the hosts in examples/.
 installed() {
     local prefix flags status
     need pkg-config pkg-config || return 1
     prefix=$(mktemp -d) || return 1
     tools/install.sh "$prefix" && flags=$(PKG_CONFIG_PATH="$prefix/lib/pkgconfig" pkg-config --cflags --libs wherryoar) &&
-        $CC_ARCHIVE -std=c99 -O2 $strict -o "$out/lanes" examples/lanes.c $flags
+        $CC_ARCHIVE -std=c99 -O2 $strict -o "$out/lanes" examples/lanes.c $flags &&
+        $CC_ARCHIVE -std=c99 -O2 $strict -o "$out/ten_bit" examples/ten_bit.c $flags
     status=$?
     rm -rf "$prefix"
     return $status
@@ -148,7 +151,8 @@ installed() {
 as_a_whole() {
     try alone alone
     try installed installed
-    try lanes same_lanes $RUN "$out/lanes"
+    try lanes same_picture lanes $RUN "$out/lanes"
+    try ten_bit same_picture ten_bit $RUN "$out/ten_bit"
     try stack tools/stack.sh
 }
 

@@ -1,34 +1,13 @@
 /* The step lists of Microchip's brief "Using the MSSP in I2C Slave Mode" and of AN734 as a table: what is done at each
-   numbered step, and which bits and which phase are seen after it.
+   numbered step, and which bits and which phase are seen after it, in the words of step_lists.h. A step number with a letter is
+   a part of that step.
 
-   Words of what is done:
-     S R P       a Start on a free bus, a Restart, a Stop
-     b30         the eight bits of a byte from the master, up to and with its eighth fall
-     g5A         eight clocks with SDA released, up to the eighth fall; the wire must read 5A
-     up up0 dn   the ninth rise with SDA released or driven low; the ninth fall
-     wait        the master releases SCL; the wire must stay low, so the clock is held
-     +CKP -SSPIF software makes a bit 1 or 0, by a write of its register with the other bits as they read
-     w0=5A r0=30 software writes a register; reads one, which must give this
-     no3=91      software writes a register, which must be refused: CON1 with 8, others with 2
-     =323        these levels as they stand
-
-   Bits seen: all that are 1 among S P DA RW BF WCOL SSPOV CKP ACKTIM ACKSTAT SSPIF. A step number with a letter is a part of
-   that step. A row with a name in place of a step begins a sequence: setup with ADD 30, then its settings are made.
-
-   Where a list says less or other than our rules (paper 01), the rules decide; "rules:" in a comment tells it. */
+   Where a list says less or other than our rules (paper 01 and its requests), the rules decide; "rules:" in a comment tells
+   it. */
 #ifndef SEQUENCES_H
 #define SEQUENCES_H
 
-typedef struct {
-    const char *name;   /* of a sequence; NULL in a step */
-    const char *step;
-    const char *action;
-    const char *bits;
-    const char *phase;
-} row;
-
-#define SEQUENCE(name, settings) {name, "settings", settings, NULL, NULL}
-#define STEP(number, action, bits, phase) {NULL, number, action, bits, phase}
+#include "step_lists.h"
 
 static const row rows[] = {
     SEQUENCE("brief 2.2.6.1, reception, SEN 0 (figure 2-6)", "-SEN"),
@@ -69,9 +48,9 @@ static const row rows[] = {
     STEP("8", "R", "S CKP SSPIF", "address"),
     STEP("13", "-SSPIF P", "P CKP SSPIF", "quiet"),
 
-    SEQUENCE("brief 2.2, interrupts on Start and Stop by the mode 1110", "no2=3E w2=1E w2=3E -SEN"), /* rules: by disabling */
+    SEQUENCE("brief 2.2, interrupts on Start and Stop by the mode 1110", "no8:2=3E w2=1E w2=3E -SEN"), /* rules: by disabling */
     STEP("1", "S", "S CKP SSPIF", "address"),
-    STEP("2", "-SSPIF no2=36", "S CKP", "address"),
+    STEP("2", "-SSPIF no8:2=36", "S CKP", "address"),
     STEP("13", "P", "P CKP SSPIF", "quiet"),
 
     SEQUENCE("brief 2.2.6.2, reception with AHEN and DHEN, SEN 0 (figure 2-8)", "+AHEN +DHEN -SEN"),
@@ -183,7 +162,7 @@ static const row rows[] = {
     SEQUENCE("brief 2.2.4, general call with AHEN and SEN", "+GCEN +AHEN +SEN"),
     STEP("a", "S b00", "S BF ACKTIM SSPIF", "held before acknowledge"),
     STEP("b", "-SSPIF r0=00", "S ACKTIM", "held before acknowledge"),
-    STEP("c", "no3=91", "S ACKTIM", "held before acknowledge"),            /* rules: ACKEN is the master's alone */
+    STEP("c", "no2:3=91", "S ACKTIM", "held before acknowledge"),            /* rules: ACKEN is the master's alone */
     STEP("d", "wait +CKP", "S CKP ACKTIM", "slot, pulling"),
     STEP("e", "up dn", "S SSPIF", "data, held"),
     STEP("f", "-SSPIF +CKP P", "P CKP", "quiet"),
@@ -232,6 +211,126 @@ static const row rows[] = {
     STEP("BF 1, SSPOV 0", "-SSPIF bA1 up dn", "S DA BF SSPOV CKP SSPIF", "quiet"),
     STEP("BF 1, SSPOV 1", "-SSPIF R b30 up dn", "S BF SSPOV CKP SSPIF", "quiet"),
     STEP("BF 0, SSPOV 1", "-SSPIF r0=30 R b30 up dn", "S BF SSPOV CKP SSPIF", "quiet"),
+
+    SEQUENCE("brief 2.2.6.3, ten-bit reception, SEN 1 (figure 2-10)", "w5=F4 w2=16 w2=37 +SEN"),
+    STEP("1", "", "CKP", "quiet"),
+    STEP("2", "S", "S CKP", "address"),
+    STEP("3", "bF4", "S BF CKP", "slot, pulling, high byte"),              /* rules: UA comes with the ninth fall */
+    STEP("4", "up dn", "S UA BF CKP SSPIF", "held for ADD, then low byte"),
+    STEP("5", "-SSPIF", "S UA BF CKP", "held for ADD, then low byte"),
+    STEP("6", "r0=F4", "S UA CKP", "held for ADD, then low byte"),
+    STEP("7", "wait w5=A5", "S CKP", "address, low byte"),
+    STEP("8", "bA5", "S BF CKP", "slot, pulling, low byte"),
+    STEP("9", "up dn", "S UA BF CKP SSPIF FULL", "held for ADD, then data"), /* SEN 1: CKP stays all the same */
+    STEP("10", "-SSPIF", "S UA BF CKP FULL", "held for ADD, then data"),
+    STEP("11", "r0=A5", "S UA CKP FULL", "held for ADD, then data"),
+    STEP("12", "wait w5=F4", "S CKP FULL", "data"),
+    STEP("13", "b31 up", "S DA BF CKP FULL", "slot, pulling"),
+    STEP("14", "dn", "S DA BF SSPIF FULL", "data, held"),
+    STEP("15", "-SSPIF", "S DA BF FULL", "data, held"),
+    STEP("16", "r0=31", "S DA FULL", "data, held"),
+    STEP("17", "wait +CKP", "S DA CKP FULL", "data"),
+    STEP("18", "b32 up dn -SSPIF r0=32 wait +CKP", "S DA CKP FULL", "data"),
+    STEP("19", "P", "P DA CKP", "quiet"),
+
+    SEQUENCE("brief 2.2.6.3, its note on ADD before the acknowledge is over", "w5=F4 w2=16 w2=37 -SEN"),
+    STEP("3", "S bF4 w5=A5", "S BF CKP", "slot, pulling, high byte"),      /* rules: stored, and nothing more */
+    STEP("4", "up dn", "S UA BF CKP SSPIF", "held for ADD, then low byte"),
+    STEP("7", "-SSPIF r0=F4 wait w5=A5", "S CKP", "address, low byte"),
+
+    SEQUENCE("brief 2.2.6.3 and 2.2.1.2, its note on a low byte that does not match", "w5=F4 w2=16 w2=37 +SEN"),
+    STEP("7", "S bF4 up dn -SSPIF r0=F4 wait w5=A5", "S CKP", "address, low byte"),
+    STEP("8", "bA4", "S CKP", "slot, declined, low byte"),
+    STEP("9", "up dn", "S UA CKP SSPIF", "held for ADD, then quiet"),
+    STEP("10", "-SSPIF", "S UA CKP", "held for ADD, then quiet"),
+    STEP("12", "wait w5=F4", "S CKP", "quiet"),
+    STEP("13", "b31 up dn", "S CKP", "quiet"),
+    STEP("19", "P", "P CKP", "quiet"),
+
+    SEQUENCE("brief 2.2.2.2, the clock stretched with UA 1, without CKP", "w5=F4 w2=16 w2=37 -SEN"),
+    STEP("a", "S bF4 up dn -SSPIF r0=F4", "S UA CKP", "held for ADD, then low byte"),
+    STEP("b", "wait +CKP wait", "S UA CKP", "held for ADD, then low byte"),
+    STEP("c", "-CKP wait +CKP wait", "S UA CKP", "held for ADD, then low byte"),
+    STEP("d", "w5=A5 =1", "S CKP", "address, low byte"),
+
+    SEQUENCE("brief 2.2.6.4, ten-bit reception with AHEN, SEN 0 (figure 2-11)", "w5=F4 w2=16 w2=37 +AHEN -SEN"),
+    STEP("a", "S bF4", "S BF ACKTIM SSPIF", "held before acknowledge, high byte"),
+    STEP("b", "-SSPIF r0=F4 -ACKDT", "S ACKTIM", "held before acknowledge, high byte"),
+    STEP("c", "wait +CKP", "S CKP ACKTIM", "slot, pulling, high byte"),
+    STEP("d", "up", "S CKP", "slot, pulling, high byte"),
+    STEP("e", "dn", "S UA CKP SSPIF", "held for ADD, then low byte"),
+    STEP("f", "-SSPIF wait w5=A5", "S CKP", "address, low byte"),
+    STEP("g", "bA5", "S BF ACKTIM SSPIF", "held before acknowledge, low byte"),
+    STEP("h", "-SSPIF r0=A5 wait +CKP", "S CKP ACKTIM", "slot, pulling, low byte"),
+    STEP("i", "up", "S CKP", "slot, pulling, low byte"),
+    STEP("j", "dn", "S UA CKP SSPIF FULL", "held for ADD, then data"),
+    STEP("k", "-SSPIF wait w5=F4", "S CKP FULL", "data"),
+    STEP("l", "b33", "S DA BF CKP ACKTIM FULL", "slot, pulling"),          /* DHEN 0: data are not held */
+    STEP("m", "up dn -SSPIF r0=33", "S DA CKP FULL", "data"),
+    STEP("n", "P", "P DA CKP", "quiet"),
+
+    SEQUENCE("brief 2.2.6.4, with DHEN: data are held, the address is not", "w5=F4 w2=16 w2=37 +DHEN -SEN"),
+    STEP("a", "S bF4", "S BF CKP ACKTIM", "slot, pulling, high byte"),
+    STEP("b", "up dn -SSPIF r0=F4 w5=A5 bA5", "S BF CKP ACKTIM", "slot, pulling, low byte"),
+    STEP("c", "up dn -SSPIF r0=A5 w5=F4 b33", "S DA BF ACKTIM SSPIF FULL", "held before acknowledge"),
+    STEP("d", "-SSPIF r0=33 +ACKDT wait +CKP", "S DA CKP ACKTIM FULL", "slot, declined"),
+    STEP("e", "up dn", "S DA CKP FULL", "quiet"),                          /* rules: the full match stays */
+
+    SEQUENCE("brief 2.2.2.3, a high byte not acknowledged by ACKDT", "w5=F4 w2=16 w2=37 +AHEN +ACKDT"),
+    STEP("a", "S bF4 -SSPIF r0=F4 wait +CKP", "S CKP ACKTIM", "slot, declined, high byte"),
+    STEP("b", "up dn", "S CKP", "quiet"),                                  /* rules: it fails, so no UA */
+
+    SEQUENCE("brief 2.2.2.3, a low byte not acknowledged by ACKDT", "w5=F4 w2=16 w2=37 +AHEN"),
+    STEP("a", "S bF4 -SSPIF r0=F4 +CKP up dn -SSPIF w5=A5 bA5", "S BF ACKTIM SSPIF", "held before acknowledge, low byte"),
+    STEP("b", "-SSPIF r0=A5 +ACKDT wait +CKP", "S CKP ACKTIM", "slot, declined, low byte"),
+    STEP("c", "up dn", "S UA CKP SSPIF", "held for ADD, then quiet"),      /* rules: UA as for one that does not match */
+    STEP("d", "-SSPIF w5=F4", "S CKP", "quiet"),
+
+    SEQUENCE("brief 2.2.7.4, ten-bit transmission, SEN 0 (figures 2-12 and 2-15)", "w5=F4 w2=16 w2=37 -SEN"),
+    STEP("1", "S", "S CKP", "address"),
+    STEP("2", "", "S CKP", "address"),                                     /* SCIE 0: no SSPIF */
+    STEP("4", "bF4", "S BF CKP", "slot, pulling, high byte"),              /* rules: UA and the hold with the ninth fall */
+    STEP("6", "up", "S BF CKP", "slot, pulling, high byte"),
+    STEP("7", "dn", "S UA BF CKP SSPIF", "held for ADD, then low byte"),
+    STEP("8", "r0=F4", "S UA CKP SSPIF", "held for ADD, then low byte"),
+    STEP("9", "-SSPIF", "S UA CKP", "held for ADD, then low byte"),
+    STEP("10", "wait w5=A5", "S CKP", "address, low byte"),
+    STEP("11", "bA5", "S BF CKP", "slot, pulling, low byte"),
+    STEP("13", "up dn", "S UA BF CKP SSPIF FULL", "held for ADD, then data"),
+    STEP("14", "r0=A5", "S UA CKP SSPIF FULL", "held for ADD, then data"),
+    STEP("15", "-SSPIF", "S UA CKP FULL", "held for ADD, then data"),
+    STEP("16", "wait w5=F4", "S CKP FULL", "data"),
+    STEP("17", "R", "S CKP FULL", "address"),
+    STEP("18", "bF5", "RW S BF CKP FULL", "slot, pulling, high byte to send"),
+    STEP("20", "r0=F5", "RW S CKP FULL", "slot, pulling, high byte to send"),
+    STEP("21", "up dn", "RW S SSPIF FULL", "held for sending"),
+    STEP("22", "wait w0=5A", "RW S BF SSPIF FULL", "held for sending"),
+    STEP("23", "-SSPIF +CKP", "RW S BF CKP FULL", "sending"),
+    STEP("24", "g5A", "RW S DA CKP FULL", "master's acknowledge"),
+    STEP("25", "up0 dn", "RW S DA SSPIF FULL", "held for sending"),
+    STEP("26", "-SSPIF", "RW S DA FULL", "held for sending"),
+    STEP("27a", "w0=C3 +CKP gC3 up", "RW S DA CKP ACKSTAT FULL", "master's acknowledge"),
+    STEP("27b", "dn -SSPIF", "S DA CKP ACKSTAT FULL", "quiet"),            /* rules: the master's 1 leaves the full match */
+    STEP("27c", "R bF5 up dn -SSPIF r0=F5 w0=81 +CKP g81 up dn -SSPIF", "S DA CKP ACKSTAT FULL", "quiet"),
+    STEP("28", "P", "P DA CKP ACKSTAT", "quiet"),
+
+    SEQUENCE("brief 2.2.1.2, to send takes both bytes first", "w5=F4 w2=16 w2=37 -SEN"),
+    STEP("a", "S bF5", "S CKP", "quiet"),
+    STEP("b", "P S bF4 up dn -SSPIF r0=F4 w5=F4 R bF5", "S CKP", "quiet"),
+    STEP("c", "P S bF4 up dn -SSPIF r0=F4 w5=A5 bA5 up dn -SSPIF r0=A5 w5=F4 P", "P CKP", "quiet"),
+    STEP("d", "S bF5", "S CKP", "quiet"),                                  /* a Stop has ended the full match */
+
+    SEQUENCE("brief 2.2.4, general call with ten bits", "w5=F4 w2=16 w2=37 +GCEN -SEN"),
+    STEP("a", "S b00", "S CKP", "quiet"),                                  /* rules: GCEN has no effect here */
+
+    SEQUENCE("brief 2.2, interrupts on Start and Stop by the mode 1111", "w5=F4 no8:2=3F w2=16 w2=3F -SEN"),
+    STEP("1", "S", "S CKP SSPIF", "address"),
+    STEP("2", "-SSPIF no8:2=37 no8:2=3E bF4 up dn", "S UA BF CKP SSPIF", "held for ADD, then low byte"),
+    STEP("3", "-SSPIF r0=F4 w5=A5 =132", "S CKP SSPIF", "address"),
+    STEP("4", "-SSPIF P", "P CKP SSPIF", "quiet"),
+
+    SEQUENCE("brief 2.2.5, the mask with ten bits", "w5=F4 w6=F0 w2=16 no9:2=37"), /* rules: only FF goes with ten bits */
+    STEP("a", "w6=FF w2=37 no9:6=F0 no9:6=FE w6=FF", "CKP", "quiet"),
 
     SEQUENCE("brief 2.1.5, a Stop needs a low SCL before it", ""),
     STEP("a", "S =3", "S CKP", "address"),

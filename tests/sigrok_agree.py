@@ -5,6 +5,7 @@
     sigrok_agree.py cuts WIREBYTES OUT RECORD     the record cut on the left and on the right at every item
     sigrok_agree.py listed WIREBYTES OUT          the records of tests/sigrok/differences.txt
     sigrok_agree.py random WIREBYTES OUT ITEMS    one random record: sigrok is the plain reader with the listed differences
+    sigrok_agree.py ten_bit WIREBYTES RECORD..    ten-bit addresses: the same events, and what sigrok calls their bytes
 
 A record is a file with a byte of 0 to 3 for each level, SCL in bit 1 and SDA in bit 0. WIREBYTES is tests/wirebytes.c.
 Events are tuples (item, letter, byte, acknowledge); a byte's item is that of its ninth rise.
@@ -22,18 +23,28 @@ import make_capture  # noqa: E402
 
 ANNOTATION = re.compile(r"(\d+)-\d+ i2c-1: (Start repeat|Start|Stop|ACK|NACK|"
                         r"(Address|Data) (?:read|write): ([0-9A-F]{2}))\Z")
+NAMED = re.compile(r"\d+-\d+ i2c-1: ((?:Address|Data) (?:read|write)): ([0-9A-F]{2})\Z")
+
+# The bytes of ten-bit addressing: what follows each in a message, and what sigrok calls it.
+FOLLOWS = {"high": "low", "low": "written", "written": "written", "high to read": "read", "read": "read"}
+CALLED = {"high": "Address write", "low": "Data write", "written": "Data write",
+          "high to read": "Address read", "read": "Data read"}
 
 
 def run(words):
     return subprocess.run(words, check=True, stdout=subprocess.PIPE, text=True).stdout.splitlines()
 
 
+def annotations(path, form="unshifted"):
+    """The lines that sigrok's decoder writes for a record."""
+    return run(["sigrok-cli", "-I", "binary:numchannels=2", "-i", path, "-P", f"i2c:scl=1:sda=0:address_format={form}",
+                "-A", "i2c=addr-data", "--protocol-decoder-samplenum"])
+
+
 def sigrok(path):
     """What sigrok's decoder makes of a record."""
-    words = ["sigrok-cli", "-I", "binary:numchannels=2", "-i", path, "-P", "i2c:scl=1:sda=0:address_format=unshifted",
-             "-A", "i2c=addr-data", "--protocol-decoder-samplenum"]
     events, pending = [], None
-    for line in run(words):
+    for line in annotations(path):
         found = ANNOTATION.match(line)
         if not found:
             if re.search(r"i2c-1: (Read|Write)\Z", line):
@@ -213,9 +224,47 @@ def at_random(wirebytes, out, items):
     return same and common > 0 and common < len(ours)
 
 
+def ten_bit_parts(events):
+    """Each byte with what it is in ten-bit addressing; a first byte that opens no ten-bit address is none of it."""
+    part = None
+    for _, letter, byte, _ in events:
+        if letter == "A":
+            opens = int(byte, 16) >> 3 == 0b11110
+            part = ("high to read" if int(byte, 16) & 1 else "high") if opens else "no ten bits"
+        elif letter == "D":
+            part = FOLLOWS.get(part, "no ten bits")
+        if letter in "AD":
+            yield part, int(byte, 16)
+
+
+def names(path, form):
+    """Each byte with what sigrok calls it."""
+    return [(found.group(1), int(found.group(2), 16)) for found in map(NAMED.match, annotations(path, form)) if found]
+
+
+def ten_bit(wirebytes, records):
+    """The same events by every item, but to sigrok the high byte is an address of seven bits, and the low byte is data."""
+    counts, wrong = dict.fromkeys(CALLED, 0), 0
+    for path in records:
+        events = plain(wirebytes, path)
+        parts = list(ten_bit_parts(events))
+        called = [(CALLED.get(part), byte) for part, byte in parts]
+        shifted = [(name, byte >> 1 if name and name.startswith("Address") else byte) for name, byte in called]
+        named = names(path, "unshifted"), names(path, "shifted")
+        if named != (called, shifted) or sigrok(path) != (events, None):
+            print(f"{path}: sigrok {named[0]}, ten bits {parts}")
+            wrong += 1
+        for part, _ in parts:
+            counts[part] = counts.get(part, 0) + 1
+    print(f"records {len(records)} differences {wrong}; " + ", ".join(f"{part} {n}" for part, n in counts.items()))
+    return wrong == 0 and min(counts.values()) > 0
+
+
 def main(arguments):
     if len(arguments) >= 3 and arguments[0] == "whole":
         fine = whole(arguments[1], arguments[2:])
+    elif len(arguments) >= 3 and arguments[0] == "ten_bit":
+        fine = ten_bit(arguments[1], arguments[2:])
     elif len(arguments) == 4 and arguments[0] == "cuts":
         fine = cuts(*arguments[1:])
     elif len(arguments) == 3 and arguments[0] == "listed":

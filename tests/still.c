@@ -3,6 +3,7 @@
 #define _DEFAULT_SOURCE /* for mmap and fork */
 #include "door.h"
 #include "second.h"
+#include "slots.h"
 #include "traffic.h"
 
 #include <signal.h>
@@ -14,19 +15,24 @@
 #include <sys/wait.h>
 #include <unistd.h>
 
-enum { IMAGE = DOOR_IMAGE, MEMORY = 256, CON1 = 2, CON2 = 3, CON3 = 4, SSPEN = 0x20, PHASES = 8, REFUSALS = 9 };
+enum { IMAGE = DOOR_IMAGE, MEMORY = 256, BUF = 0, CON1 = 2, CON2 = 3, CON3 = 4, ADD = 5, SSPEN = 0x20, CKP = 0x10 };
+
+enum { PHASES = DOOR_PHASES, REFUSALS = 10 };
 
 /* The room with a state at its end: whole pages on any machine, since an emulator protects pages of the one it runs on. */
 enum { ROOM = 1 << 16 };
 
 /* Where the short way has to be met: each phase by its number, and these. A line that is pulled may be sampled as 1 or 0. */
 enum {
-    OFF = PHASES, MARKED, HELD_DATA, HOLD_SCL_0, HOLD_SCL_1, SLOT_SDA_0, SLOT_SDA_1, SENDING_SDA_0, SENDING_SDA_1, SITUATIONS
+    OFF = PHASES, MARKED, HELD_DATA, HOLD_SCL_0, HOLD_SCL_1, SLOT_SDA_0, SLOT_SDA_1, SENDING_SDA_0, SENDING_SDA_1,
+    ADD_SCL_0, ADD_SCL_1, ADD_CKP_0, LOW_BITS, HIGH_SLOT, LOW_SLOT, LOW_SLOT_FREE, ASKING_SLOT, FULL, SITUATIONS
 };
 static const char *const situations[SITUATIONS] = {
     "quiet", "address", "data", "held before acknowledge", "slot", "held for sending", "sending", "master acknowledge",
-    "disabled", "marked", "held data", "SCL pulled and sampled 0", "and 1", "SDA pulled in a slot and sampled 0", "and 1",
-    "SDA pulled in sending and sampled 0", "and 1"
+    "held for ADD", "disabled", "marked", "held data", "SCL pulled and sampled 0", "and 1",
+    "SDA pulled in a slot and sampled 0", "and 1", "SDA pulled in sending and sampled 0", "and 1",
+    "held for ADD and SCL sampled 0", "and 1", "with CKP 0", "bits of a low byte", "slot of a high byte", "of a low byte",
+    "that does not pull", "of a high byte that asks to send", "full match"
 };
 
 /* All that the test keeps. It is shared with the process that plays, so that it can be told if a fault ends that one. */
@@ -94,6 +100,22 @@ static void see_fault(bench *b, const uint8_t *image, int *seen, void (*doing)(b
         fail(b, image, "a write was not seen");
 }
 
+/* Counts where with ten bits a sample took the short way. */
+static void count_still_ten(bench *b, const second_view *v)
+{
+    int slot = v->phase == DOOR_SLOT;
+
+    if (v->phase == DOOR_HELD_ADD)
+        b->still[ADD_SCL_0 + (b->level >> 1 & 1)]++;
+    b->still[ADD_CKP_0] += v->phase == DOOR_HELD_ADD && !(v->con1 & CKP);
+    b->still[LOW_BITS] += v->phase == DOOR_ADDRESS && v->which == BYTE_LOW && v->bits > 0;
+    b->still[HIGH_SLOT] += slot && v->which == BYTE_HIGH;
+    b->still[LOW_SLOT] += slot && v->which == BYTE_LOW && v->sda_pulled;
+    b->still[LOW_SLOT_FREE] += slot && v->which == BYTE_LOW && !v->sda_pulled;
+    b->still[ASKING_SLOT] += slot && v->which == BYTE_HIGH_TO_SEND;
+    b->still[FULL] += v->full;
+}
+
 /* Counts where a sample took the short way. */
 static void count_still(bench *b, const second_view *v)
 {
@@ -107,6 +129,7 @@ static void count_still(bench *b, const second_view *v)
         b->still[HOLD_SCL_0 + scl]++;
     if (v->sda_pulled)
         b->still[(v->phase == DOOR_SLOT ? SLOT_SDA_0 : SENDING_SDA_0) + sda]++;
+    count_still_ten(b, v);
 }
 
 /* A level on the state laid out: where it is to leave every byte, it is sampled here. */
@@ -153,6 +176,26 @@ static void try_bytes(bench *b, const uint8_t *image)
 
 /* ---- Playing ---- */
 
+/* What software does for ten bits: in the hold for ADD it mostly reads BUF and writes ADD, or turns CKP over; in quiet and data
+   it reads BUF, clears SSPOV and puts the high byte back, so that the next address is taken. */
+static void serve(bench *b)
+{
+    second_view v = second_look(b->image, IMAGE);
+    int hold = v.phase == DOOR_HELD_ADD, between = v.phase == DOOR_QUIET || v.phase == DOOR_DATA;
+    uint32_t refusals = 0;
+
+    if (!(hold || between) || !traffic_once_in(&b->source, 4))
+        return;
+    if (between || !traffic_once_in(&b->source, 4))
+        refusals |= second_read(b->image, IMAGE, BUF).refusal;
+    if (between || traffic_once_in(&b->source, 4))
+        refusals |= second_write(b->image, IMAGE, CON1, between ? v.con1 & 0xBF : v.con1 ^ CKP).refusal;
+    if (between || !traffic_once_in(&b->source, 3))
+        refusals |= second_write(b->image, IMAGE, ADD, traffic_update(&b->source, v.next)).refusal;
+    if (refusals != 0)
+        fail(b, b->image, "an access was refused");
+}
+
 /* Takes an item of the traffic on the live state, and tries that state, then with one to three bits turned over: mostly no
    state, else one that traffic seldom comes to. */
 static int take(void *to, unsigned item)
@@ -166,6 +209,8 @@ static int take(void *to, unsigned item)
     if (a.refusal != 0)
         fail(b, b->image, "traffic was refused");
     try_bytes(b, b->image);
+    if (b->source.ten)
+        serve(b);
     memcpy(mangled, b->image, IMAGE);
     while (bits-- > 0)
         mangled[traffic_below(&b->source, 24)] ^= (uint8_t)(1u << traffic_below(&b->source, 8));
@@ -183,15 +228,16 @@ static void begin(bench *b)
 
     t->n = (uint16_t)(1 + traffic_below(t, MEMORY));
     t->add = traffic_add(t);
-    t->left = 400;
+    traffic_choose_ten(t, traffic_once_in(t, 2));
+    t->left = t->ten ? 1200 : 400;
     t->held = 0;
     refusals = second_setup(b->image, IMAGE, t->add, t->n).refusal;
     if (!traffic_once_in(t, 3)) {
-        refusals |= second_write(b->image, IMAGE, CON2, (uint8_t)(traffic_below(t, 256) & 0xA1)).refusal;
+        refusals |= second_write(b->image, IMAGE, CON2, (uint8_t)(traffic_below(t, 256) & (t->ten ? 0x81 : 0xA1))).refusal;
         refusals |= second_write(b->image, IMAGE, CON3, (uint8_t)(traffic_below(t, 256) & 0x63)).refusal;
         refusals |= second_write(b->image, IMAGE, CON1, 0x16).refusal;
         if (!traffic_once_in(t, 8))
-            refusals |= second_write(b->image, IMAGE, CON1, traffic_once_in(t, 2) ? 0x3E : 0x36).refusal;
+            refusals |= second_write(b->image, IMAGE, CON1, (traffic_once_in(t, 2) ? 0x3E : 0x36) | t->ten).refusal;
     }
     if (refusals != 0)
         fail(b, b->image, "a setting was refused");

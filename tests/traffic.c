@@ -132,6 +132,48 @@ static unsigned some_address(traffic *t)
     return pick == 10 ? 0x01 : traffic_below(t, 256);
 }
 
+/* Ten bits: mostly a high byte of the usual form, 11110, two bits and 0; at times the low byte is the same. */
+void traffic_choose_ten(traffic *t, int ten)
+{
+    t->ten = (uint8_t)ten;
+    if (!ten)
+        return;
+    t->add = traffic_once_in(t, 3) ? traffic_add(t) : (uint8_t)(0xF0 + 2 * traffic_below(t, 4));
+    t->low = traffic_once_in(t, 8) ? t->add : (uint8_t)traffic_below(t, 256);
+}
+
+/* The low byte before it comes, else the high byte again; now and then any. */
+uint8_t traffic_update(traffic *t, unsigned next)
+{
+    if (traffic_once_in(t, 12))
+        return (uint8_t)traffic_below(t, 256);
+    return next == 1 ? t->low : t->add;
+}
+
+/* A high byte: mostly the device's; else 00, 01, one but for a bit, or any. */
+static unsigned some_high(traffic *t, unsigned asks)
+{
+    unsigned pick = traffic_below(t, 16), own = (t->add & 0xFEu) | asks;
+
+    if (pick < 13)
+        return own;
+    if (pick == 13)
+        return own ^ (2u << traffic_below(t, 7));
+    return traffic_below(t, pick == 14 ? 2 : 256);
+}
+
+/* A low byte: mostly the device's; else one but for a bit, often the lowest, or any. */
+static unsigned some_low(traffic *t)
+{
+    unsigned pick = traffic_below(t, 12);
+
+    if (pick < 8)
+        return t->low;
+    if (pick < 11)
+        return t->low ^ (pick == 8 ? 1u << traffic_below(t, 8) : 1u);
+    return traffic_below(t, 256);
+}
+
 /* A pointer byte, mostly near the ends of the memory. */
 static unsigned some_pointer(traffic *t)
 {
@@ -148,20 +190,55 @@ static unsigned some_length(traffic *t)
     return traffic_below(t, t->longest > 0 && traffic_once_in(t, 60) ? t->longest : 6);
 }
 
-/* A message. */
-void traffic_message(traffic *t)
+/* The bytes after an address, as R/W says; answers whether they came to their end. */
+static int bytes_after(traffic *t, unsigned reads, unsigned length)
 {
-    unsigned address = some_address(t), length = some_length(t), i;
-    int whole;
+    unsigned i;
+    int whole = 1;
 
-    start(t);
-    whole = byte(t, address, 1);
     for (i = 0; whole && i < length && t->left > 0; i++) {
-        if (address & 1)
+        if (reads)
             whole = byte(t, 0xFF, i + 1 == length || traffic_once_in(t, 30));
         else
             whole = byte(t, i == 0 ? some_pointer(t) : traffic_below(t, 256), 1);
     }
+    return whole;
+}
+
+/* A message with ten address bits: the high byte, seldom with R/W 1, the low byte and bytes written; then Restarts, mostly with
+   R/W 1 and bytes read. */
+static void ten_bit_message(traffic *t)
+{
+    unsigned reads = (unsigned)traffic_once_in(t, 10), length = some_length(t);
+    int whole;
+
+    start(t);
+    whole = byte(t, some_high(t, reads), 1) && byte(t, some_low(t), 1) && bytes_after(t, 0, length / 2);
+    while (whole && t->left > 0 && !traffic_once_in(t, 3)) {
+        reads = (unsigned)!traffic_once_in(t, 4);
+        start(t);
+        whole = byte(t, some_high(t, reads), 1) && (reads || byte(t, some_low(t), 1));
+        whole = whole && bytes_after(t, reads, some_length(t) / 2);
+    }
+}
+
+/* A message with seven address bits. */
+static void seven_bit_message(traffic *t)
+{
+    unsigned address = some_address(t), length = some_length(t);
+
+    start(t);
+    if (byte(t, address, 1))
+        (void)bytes_after(t, address & 1, length);
+}
+
+/* A message. */
+void traffic_message(traffic *t)
+{
+    if (t->ten && !traffic_once_in(t, 12))
+        ten_bit_message(t);
+    else
+        seven_bit_message(t);
     if (!traffic_once_in(t, 4))
         stop(t);
 }

@@ -10,7 +10,8 @@ enum { TRAFFIC_SDA = 1, TRAFFIC_SCL = 2, TRAFFIC_CALL = 4 };
 /* A source of traffic and where it goes. */
 typedef struct {
     uint64_t seed;                         /* not 0 */
-    uint8_t add;                           /* the address that most messages have */
+    uint8_t add;                           /* the address that most messages have; with ten bits its high byte */
+    uint8_t ten, low;                      /* whether most messages have ten address bits, and the low byte of these */
     uint16_t n;                            /* the memory's length, for pointers near its ends */
     unsigned longest;                      /* a rare long message has fewer bytes than this; 0: there is none */
     unsigned long left;                    /* items that may still be driven; nothing is driven at 0 */
@@ -25,6 +26,13 @@ int traffic_once_in(traffic *t, unsigned times);
 
 /* An ADD for a device. */
 uint8_t traffic_add(traffic *t);
+
+/* Ten bits from now on, with any address, or seven again with the add that there is. */
+void traffic_choose_ten(traffic *t, int ten);
+
+/* What software writes to ADD in the hold for it, by what follows the hold (1 the low byte): mostly the byte that is compared
+   next. */
+uint8_t traffic_update(traffic *t, unsigned next);
 
 /* A message, well formed unless cut short; it ends with a Stop, with the next Start, or with nothing. */
 void traffic_message(traffic *t);

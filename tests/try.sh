@@ -52,7 +52,7 @@ settle() {
     groups=()
 }
 
-# The example host draws its stored picture.
-same_lanes() { # same_lanes HOST..
-    "$@" examples/lanes.txt >"$out/lanes.out" && diff "$out/lanes.out" examples/lanes.out && echo "as in examples/lanes.out"
+# An example host draws its stored picture.
+same_picture() { # same_picture NAME HOST..: examples/NAME.txt gives examples/NAME.out
+    "${@:2}" "examples/$1.txt" >"$out/$1.out" && diff "$out/$1.out" "examples/$1.out" && echo "as in examples/$1.out"
 }

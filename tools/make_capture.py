@@ -1,7 +1,7 @@
 #!/usr/bin/env python3
 """Turns a recipe (Start, Stop, bytes written, bytes read) into a capture as the report reads it: digits 0 to 3 and h.
 
-    make_capture.py [-g] [-c SAMPLES] [-d DELAY] [-j SEED] [-o FILE] RECIPE..
+    make_capture.py [-g] [-s] [-c SAMPLES] [-d DELAY] [-j SEED] [-o FILE] RECIPE..
 
 A recipe is a row of words:
 
@@ -16,7 +16,8 @@ A recipe is a row of words:
 A digit is what everybody but the module drives, 2 * SCL + SDA. SAMPLES is the number of samples per clock (2 or more):
 SCL is low for the first half, SDA changes in the middle of it. A handler call comes DELAY samples after each ninth fall
 (0: never); a master that wants SCL high before that waits for it. With a SEED above 0 each length is off by up to a
-quarter, the same way for the same seed. With -g the capture begins with g: the report's module has GCEN on.
+quarter, the same way for the same seed. With -g the capture begins with g: the report's module has GCEN on. With -s a call
+comes after each Start too, for firmware that is interrupted there.
 """
 import argparse
 import re
@@ -44,11 +45,12 @@ class Lengths:
 class Wave:
     """The items so far, SDA as it is driven, and the handler call that is still to come."""
 
-    def __init__(self, samples, delay, seed):
+    def __init__(self, samples, delay, seed, start_calls):
         self.low = samples // 2
         self.hold = self.low // 2
         self.high = samples - self.low
         self.delay = delay
+        self.start_calls = start_calls
         self.lengths = Lengths(seed)
         self.items = []
         self.sda = 1
@@ -84,6 +86,8 @@ class Wave:
             self.rise(1)
         else:
             self.drive(1, 1, 1)
+        if self.start_calls:
+            self.due = self.delay
         self.drive(1, 0, max(1, self.high // 2))
         self.free = False
 
@@ -132,9 +136,9 @@ class Wave:
         return True
 
 
-def capture(words, samples=2, delay=1, seed=0, general_call=False):
+def capture(words, samples=2, delay=1, seed=0, general_call=False, start_calls=False):
     """The capture of a recipe as text, a new line for each word; ValueError names a word that is none."""
-    wave = Wave(samples, delay, seed)
+    wave = Wave(samples, delay, seed, start_calls)
     lines = ["g"] if general_call else []
     for word in words:
         begin = len(wave.items)
@@ -148,6 +152,7 @@ def capture(words, samples=2, delay=1, seed=0, general_call=False):
 def parser():
     p = argparse.ArgumentParser(description="Turns a recipe into a capture.")
     p.add_argument("-g", "--general-call", action="store_true", help="g first: GCEN is on")
+    p.add_argument("-s", "--start-calls", action="store_true", help="a handler call after each Start too")
     p.add_argument("-c", "--samples", type=int, default=2, help="samples per clock, 2 or more")
     p.add_argument("-d", "--delay", type=int, default=1, help="samples from a ninth fall to the handler call; 0: none")
     p.add_argument("-j", "--seed", type=int, default=0, help="above 0: lengths off by up to a quarter")
@@ -162,7 +167,7 @@ def main(arguments):
         print("make_capture.py: samples below 2, or a negative delay or seed", file=sys.stderr)
         return 2
     try:
-        text = capture(a.recipe, a.samples, a.delay, a.seed, a.general_call)
+        text = capture(a.recipe, a.samples, a.delay, a.seed, a.general_call, a.start_calls)
     except ValueError as wrong:
         print(f"make_capture.py: {wrong}", file=sys.stderr)
         return 2

@@ -12,7 +12,7 @@
 
 enum { IMAGE = 48, LONGEST_IMAGE = 64, LONGEST_BUFFER = 300, LONGEST_BYTES = 4096, GUARD_BYTE = 0xA5, HANDLER_CALL = 4 };
 
-enum { CON1 = 2, MODE_UNDER_WAY = 8, HIGHEST_REFUSAL = 8, SLOT = 4 };
+enum { STAT = 1, CON1 = 2, ADD = 5, UA = 0x02, MODE_UNDER_WAY = 8, HIGHEST_REFUSAL = 9, SLOT = 4, HELD_ADD = 8 };
 
 /* Lent memory is as long as it is said to be. Where address checking sees every access nothing stands around it; else, and
    always around what the archive gets, there are guard bytes. */
@@ -98,8 +98,9 @@ static size_t byte_items(uint8_t *items, unsigned value, unsigned ninth)
     return length;
 }
 
-/* A word of a message: a Start, a Stop, an address, a byte whole or cut short, or a handler call. */
-static size_t word_items(source *s, uint8_t *items)
+/* A word of a message: a Start, a Stop, an address, a byte whole or cut short, the byte in ADD, which a low byte has to be, or
+   a handler call. */
+static size_t word_items(source *s, const program *p, uint8_t *items)
 {
     static const uint8_t start[3] = {1, 3, 2}, stop[3] = {0, 2, 3};
     uint8_t pick = next(s);
@@ -122,19 +123,21 @@ static size_t word_items(source *s, uint8_t *items)
     case 5:
         items[0] = HANDLER_CALL;
         return 1;
+    case 7:
+        return byte_items(items, pick & 0x40 ? p->image[ADD] : next(s), high);
     default:
         return byte_items(items, next(s), high);
     }
 }
 
 /* A trace of sense. */
-static size_t messages(source *s, uint8_t *items)
+static size_t messages(source *s, const program *p, uint8_t *items)
 {
     size_t length = 0;
     unsigned words = next(s) % 16;
 
     while (words-- > 0)
-        length += word_items(s, items + length);
+        length += word_items(s, p, items + length);
     return length;
 }
 
@@ -151,11 +154,11 @@ static size_t raw(source *s, uint8_t *items, unsigned limit)
     return length;
 }
 
-/* The value for CON1: SSPEN 1 and a mode that can run. A change of mode under way is now and then tried, else SSPEN is 0: the
-   module is disabled with the other mode stored. */
+/* The value for CON1: SSPEN 1 and a mode that can run, bit 0 for ten bits. A change of mode under way is now and then tried,
+   else SSPEN is 0: the module is disabled with the other mode stored. */
 static uint8_t con1_value(const program *p, uint8_t value)
 {
-    uint8_t running = (uint8_t)((value & 0xD8) | 0x26);
+    uint8_t running = (uint8_t)((value & 0xD9) | 0x26);
 
     if (write_refusal(p->image, CON1, running) == MODE_UNDER_WAY && value % 8 > 1)
         return (uint8_t)(running & 0xDF);
@@ -199,7 +202,7 @@ static step next_step(source *s, const program *p, uint8_t *bytes)
     if (made.which == STEP_CALL || made.which == STEP_RUN)
         window(s, &made, n);
     if (made.which == STEP_RUN)
-        made.bytes_length = next(s) % 4 == 0 ? raw(s, bytes, 5) : messages(s, bytes);
+        made.bytes_length = next(s) % 4 == 0 ? raw(s, bytes, 5) : messages(s, p, bytes);
     if (made.which == STEP_FIND) {
         made.bytes_length = raw(s, bytes, 4);
         made.item = number(s, made.bytes_length == 0 ? 0 : next(s) % made.bytes_length);
@@ -269,7 +272,7 @@ static outcome make(program *p, const step *s)
 
 /* Which refusals each function can have, a bit for each. */
 static const unsigned refusals[STEPS] = {
-    1u << 6 | 1u << 5, 1u << 6 | 1u << 1, 1u << 6 | 1u << 1 | 1u << 2 | 1u << 3 | 1u << 8, 1u << 6 | 1u << 4,
+    1u << 6 | 1u << 5, 1u << 6 | 1u << 1, 1u << 6 | 1u << 1 | 1u << 2 | 1u << 3 | 1u << 8 | 1u << 9, 1u << 6 | 1u << 4,
     1u << 6 | 1u << 5, 1u << 6 | 1u << 5 | 1u << 4, 1u << 6, 1u << 4 | 1u << 7, 1u << 6
 };
 
@@ -348,7 +351,22 @@ static void check_part(const step *s, const outcome *o)
     promise(length == 0 ? start == s->item : s->item >= start && s->item - start < length, "a part without the item");
 }
 
-/* After a call that was made the state is a state; in a slot its view shows the case that its image tells. */
+/* A view shows what its image tells: the case of a slot, which byte a phase belongs to or what follows it, the full match; and
+   UA exactly in the hold for ADD. */
+static void check_view(const program *p, const outcome *view)
+{
+    int hold_for_add = p->image[IMAGE_PHASE] == HELD_ADD;
+
+    if (view->seen[SEEN_PHASE] == SLOT)
+        promise(slot_case((unsigned)view->seen[SEEN_SDA_PULLED], (unsigned)view->seen[SEEN_REFUSED]) == p->image[PART_AT],
+                "another case of a slot");
+    promise(view->seen[SEEN_WHICH] == (hold_for_add ? 0 : p->image[WHICH_AT]), "another byte");
+    promise(view->seen[SEEN_NEXT] == (hold_for_add ? p->image[WHICH_AT] : 0), "another phase that follows");
+    promise(view->seen[SEEN_FULL] == p->image[FULL_AT], "another full match");
+    promise(view->seen[SEEN_STAT] == (p->image[STAT] | (hold_for_add ? UA : 0u)), "another STAT");
+}
+
+/* After a call that was made the state is a state. */
 static void check_state(program *p, const step *s, const outcome *o)
 {
     step look;
@@ -361,9 +379,7 @@ static void check_state(program *p, const step *s, const outcome *o)
     look.state_length = IMAGE;
     view = make(p, &look);
     promise(view.refusal == 0, "a state after a call that was made");
-    if (view.seen[SEEN_PHASE] == SLOT)
-        promise(slot_case((unsigned)view.seen[SEEN_SDA_PULLED], (unsigned)view.seen[SEEN_REFUSED]) == p->image[PART_AT],
-                "another case of a slot");
+    check_view(p, &view);
 }
 
 /* A run is its items one by one. */
@@ -455,7 +471,7 @@ static outcome made_by_all(program *first, program *other, const step *s)
     return o;
 }
 
-/* Tells the answers of hit and the moments around a refused byte and a general call; answers whether each has come. */
+/* Tells the answers of hit and the moments of tests/moments.h; answers whether each has come. */
 int target_reached(void)
 {
     hits_tell(hits);

@@ -9,7 +9,8 @@ static void see_view(const door_view *v, uint64_t *seen)
 {
     const uint64_t fields[SEEN] = {
         v->buf, v->stat, v->con1, v->con2, v->con3, v->add, v->msk, v->flag, v->scl_pulled, v->sda_pulled,
-        v->phase, v->bits, v->byte, v->refused, v->wire, v->mark, v->due, v->n, v->pointer, 0, 0, 0
+        v->phase, v->bits, v->byte, v->refused, v->wire, v->mark, v->due, v->n, v->pointer,
+        v->which, v->next, v->full
     };
 
     memcpy(seen, fields, sizeof fields);

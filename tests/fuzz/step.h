@@ -21,7 +21,9 @@ typedef struct {
 } step;
 
 /* What it answered; a part's start and length, or a view's fields, follow refusal, value and item. */
-enum { SEEN_SDA_PULLED = 9, SEEN_PHASE = 10, SEEN_REFUSED = 13, SEEN = 22 };
+enum {
+    SEEN_STAT = 1, SEEN_SDA_PULLED = 9, SEEN_PHASE = 10, SEEN_REFUSED = 13, SEEN_WHICH = 19, SEEN_NEXT, SEEN_FULL, SEEN
+};
 
 typedef struct {
     uint64_t refusal, value, item;

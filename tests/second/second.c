@@ -9,8 +9,14 @@ enum { BUF, STAT, CON1, CON2, CON3, ADD, MSK, FLAG, REGISTERS };
 /* Bits of STAT. */
 enum { SMP = 0x80, CKE = 0x40, DA = 0x20, P = 0x10, S = 0x08, RW = 0x04, UA = 0x02, BF = 0x01 };
 
-/* Bits of CON1, and the two modes allowed with SSPEN 1. */
-enum { WCOL = 0x80, SSPOV = 0x40, SSPEN = 0x20, CKP = 0x10, SSPM = 0x0F, SLAVE = 0x06, SLAVE_FLAGGED = 0x0E };
+/* Bits of CON1. */
+enum { WCOL = 0x80, SSPOV = 0x40, SSPEN = 0x20, CKP = 0x10, SSPM = 0x0F };
+
+/* The four modes allowed with SSPEN 1: seven or ten address bits; in the flagged ones every Start and Stop sets SSPIF. */
+enum { SEVEN = 0x06, TEN = 0x07, SEVEN_FLAGGED = 0x0E, TEN_FLAGGED = 0x0F };
+
+/* The only mask that goes with ten bits. */
+enum { NO_MASK = 0xFF };
 
 /* Bits of CON2. */
 enum { GCEN = 0x80, ACKSTAT = 0x40, ACKDT = 0x20, MASTER_ONLY = 0x1E, SEN = 0x01 };
@@ -27,11 +33,18 @@ enum { SDA = 1, SCL = 2, HIGHEST_LEVEL = 3, NONE = 255 };
 /* The item of a trace that is a handler call. */
 enum { HANDLER_CALL = 4 };
 
-/* The eight phases. */
-enum { QUIET, ADDRESS, DATA, HELD_BEFORE, SLOT, HELD_SENDING, SENDING, MASTER_ACK, PHASES };
+/* The nine phases. */
+enum { QUIET, ADDRESS, DATA, HELD_BEFORE, SLOT, HELD_SENDING, SENDING, MASTER_ACK, HELD_ADD, PHASES };
 
-/* The three cases of an acknowledge slot: SDA is pulled; BF or SSPOV refused the intake; ACKDT alone declined the byte. */
+/* The three cases of an acknowledge slot: SDA is pulled; BF or SSPOV refused the intake; neither, since ACKDT alone declined
+   the byte or a low byte did not match. */
 enum { PULLING = 1, REFUSED, DECLINED };
+
+/* Which byte an address, a hold before acknowledge or a slot belongs to; only ten bits know others than the first. */
+enum { OTHER = 0, HIGH = 1, LOW = 2, HIGH_TO_SEND = 3 };
+
+/* What follows when ADD is written in the hold for it. */
+enum { QUIET_NEXT = 0, LOW_NEXT = 1, DATA_NEXT = 2 };
 
 /* Which address a first byte hits. */
 enum { NO_HIT = 0, OWN_HIT = 1, GENERAL_CALL = 2 };
@@ -39,24 +52,27 @@ enum { NO_HIT = 0, OWN_HIT = 1, GENERAL_CALL = 2 };
 /* Refusals by their numbers. */
 enum {
     DONE = 0, NO_REGISTER = 1, MASTER_BITS = 2, NO_SUCH_MODE = 3,
-    NO_SUCH_LEVEL = 4, NO_SUCH_WINDOW = 5, NO_STATE = 6, NO_SUCH_ITEM = 7, MODE_UNDER_WAY = 8
+    NO_SUCH_LEVEL = 4, NO_SUCH_WINDOW = 5, NO_STATE = 6, NO_SUCH_ITEM = 7, MODE_UNDER_WAY = 8, MASKED_TEN = 9
 };
 
 /* The image's length, and the places in it. */
 enum {
-    AT_PHASE = 8, AT_COUNT = 9, AT_BYTE = 10, AT_PART = 11, AT_WIRE = 12, AT_MARK = 13, AT_GAP = 14,
-    AT_N = 16, AT_POINTER = 18, AT_DUE = 20, AT_REST = 21, IMAGE = 48
+    AT_PHASE = 8, AT_COUNT = 9, AT_BYTE = 10, AT_PART = 11, AT_WIRE = 12, AT_MARK = 13, AT_WHICH = 14,
+    AT_FULL = 15, AT_N = 16, AT_POINTER = 18, AT_DUE = 20, AT_REST = 21, IMAGE = 48
 };
 
 /* A state in the open. Parts a phase has no use for are 0. */
 typedef struct {
-    uint8_t reg[REGISTERS];
+    uint8_t reg[REGISTERS]; /* STAT without UA, which the phase tells */
     uint8_t phase;
     uint8_t count;   /* address, data: bits so far; sending: the place */
     uint8_t byte;    /* address, data: those bits as a number; sending: the byte */
     uint8_t held;    /* data: held or not */
     uint8_t refused; /* held before acknowledge: refused or not */
     uint8_t slot;    /* acknowledge slot: which of its three cases */
+    uint8_t which;   /* address, held before acknowledge, slot: which byte */
+    uint8_t next;    /* held for ADD: what follows */
+    uint8_t full;    /* the full match: both bytes of the ten-bit address were acknowledged */
     uint8_t wire;
     uint8_t mark;
     uint8_t due;
@@ -90,7 +106,7 @@ static void take(module *m, int number, int bits, int value)
     m->reg[number] = (uint8_t)((m->reg[number] & ~bits) | (value & bits));
 }
 
-/* Goes to a phase with all its parts 0: no bits, not held, not refused, no slot. */
+/* Goes to a phase with all its parts 0: no bits, not held, not refused, no slot, no byte of ten bits. */
 static void enter(module *m, int phase)
 {
     m->phase = (uint8_t)phase;
@@ -99,12 +115,36 @@ static void enter(module *m, int phase)
     m->held = 0;
     m->refused = 0;
     m->slot = 0;
+    m->which = 0;
+    m->next = 0;
+}
+
+/* Whether SSPM says ten address bits. */
+static int ten_bits(const module *m)
+{
+    int mode = m->reg[CON1] & SSPM;
+
+    return mode == TEN || mode == TEN_FLAGGED;
+}
+
+/* Whether SSPM alone makes every Start and Stop set SSPIF. */
+static int flagged(const module *m)
+{
+    int mode = m->reg[CON1] & SSPM;
+
+    return mode == SEVEN_FLAGGED || mode == TEN_FLAGGED;
+}
+
+/* Whether the clock is held until CKP is written 1. */
+static int held_by_ckp(const module *m)
+{
+    return m->phase == HELD_BEFORE || m->phase == HELD_SENDING || (m->phase == DATA && m->held);
 }
 
 /* Whether the clock is held: SCL is pulled exactly then. */
 static int clock_held(const module *m)
 {
-    return m->phase == HELD_BEFORE || m->phase == HELD_SENDING || (m->phase == DATA && m->held);
+    return held_by_ckp(m) || m->phase == HELD_ADD;
 }
 
 /* Whether SDA is pulled: in a pulling slot and for the 0 bits of a byte being sent. */
@@ -138,7 +178,7 @@ static void end_message(module *m)
     clear(m, CON3, ACKTIM);
 }
 
-/* Start: an address with no bits follows, marked until SCL is low. */
+/* Start: an address with no bits follows, marked until SCL is low; the full match stays. */
 static void start_seen(module *m)
 {
     end_message(m);
@@ -146,18 +186,19 @@ static void start_seen(module *m)
     set(m, STAT, S);
     enter(m, ADDRESS);
     m->mark = 1;
-    if (any(m, CON3, SCIE) || (m->reg[CON1] & SSPM) == SLAVE_FLAGGED)
+    if (any(m, CON3, SCIE) || flagged(m))
         set(m, FLAG, SSPIF);
 }
 
-/* Stop: quiet follows; D/A stays. */
+/* Stop: quiet follows; D/A stays, the full match ends. */
 static void stop_seen(module *m)
 {
     end_message(m);
+    m->full = 0;
     clear(m, STAT, S);
     set(m, STAT, P);
     enter(m, QUIET);
-    if (any(m, CON3, PCIE) || (m->reg[CON1] & SSPM) == SLAVE_FLAGGED)
+    if (any(m, CON3, PCIE) || flagged(m))
         set(m, FLAG, SSPIF);
 }
 
@@ -171,17 +212,25 @@ static void hold(module *m, int phase)
     clear(m, CON1, CKP);
 }
 
-/* The acknowledge slot follows; an intake that was refused stays so, whatever ACKDT says. */
-static void enter_slot(module *m, int refused, int declined)
+/* The hold for ADD, with what follows it; CKP has no part in it. */
+static void hold_for_add(module *m, int next)
+{
+    enter(m, HELD_ADD);
+    m->next = (uint8_t)next;
+}
+
+/* The acknowledge slot of a byte follows; an intake that was refused stays so, whatever ACKDT says. */
+static void enter_slot(module *m, int which, int refused, int declined)
 {
     enter(m, SLOT);
+    m->which = (uint8_t)which;
     m->slot = refused ? REFUSED : declined ? DECLINED : PULLING;
 }
 
 /* Release from a hold before acknowledge: ACKDT is asked now, BF and SSPOV were asked at the eighth fall. */
 static void release_before(module *m)
 {
-    enter_slot(m, m->refused, any(m, CON2, ACKDT));
+    enter_slot(m, m->which, m->refused, any(m, CON2, ACKDT));
 }
 
 /* Release from the hold for sending: the byte in BUF goes out from bit 7. */
@@ -191,7 +240,7 @@ static void release_sending(module *m)
     m->byte = m->reg[BUF];
 }
 
-/* CKP = 1 was written: whatever hold there is ends. */
+/* CKP = 1 was written: whatever hold there is ends, but the one for ADD. */
 static void release(module *m)
 {
     if (m->phase == HELD_BEFORE)
@@ -200,6 +249,21 @@ static void release(module *m)
         release_sending(m);
     else if (m->phase == DATA)
         m->held = 0;
+}
+
+/* ADD was written: the hold for it ends, and UA with it. */
+static void release_add(module *m)
+{
+    int next = m->next;
+
+    if (m->phase != HELD_ADD)
+        return;
+    if (next == LOW_NEXT) {
+        enter(m, ADDRESS);
+        m->which = LOW;
+    } else {
+        enter(m, next == DATA_NEXT ? DATA : QUIET);
+    }
 }
 
 /* ---- Taking bytes ---- */
@@ -217,7 +281,7 @@ static int load(module *m, uint8_t byte)
 }
 
 /* Intake of an address or data byte at its eighth fall; holding is AHEN for an address, DHEN for data. */
-static void intake(module *m, uint8_t byte, int holding)
+static void intake(module *m, uint8_t byte, int which, int holding)
 {
     int refused = load(m, byte);
 
@@ -226,32 +290,82 @@ static void intake(module *m, uint8_t byte, int holding)
     if (holding) {
         set(m, FLAG, SSPIF);
         hold(m, HELD_BEFORE);
+        m->which = (uint8_t)which;
         m->refused = (uint8_t)refused;
     } else {
-        enter_slot(m, refused, 0);
+        enter_slot(m, which, refused, 0);
     }
 }
 
-/* Which address a first byte hits: its own by ADD under MSK in bits 7..1, else with GCEN the general call. */
+/* Which address a first byte hits: its own by ADD in bits 7..1, with seven bits under MSK, else with GCEN the general call. */
 static int address_hit(const module *m, uint8_t byte)
 {
-    if (((byte ^ m->reg[ADD]) & m->reg[MSK] & 0xFE) == 0)
+    int others = (byte ^ m->reg[ADD]) & 0xFE;
+
+    if (ten_bits(m))
+        return others == 0 ? OWN_HIT : NO_HIT;
+    if ((others & m->reg[MSK]) == 0)
         return OWN_HIT;
     return any(m, CON2, GCEN) && byte == 0 ? GENERAL_CALL : NO_HIT;
 }
 
-/* Eighth fall of an address: whichever it hits is taken, and in the same way. */
-static void address_ended(module *m)
+/* A first byte that is taken: R/W is its bit 0. */
+static void take_first_byte(module *m, uint8_t byte, int which)
+{
+    clear(m, STAT, DA);
+    take(m, STAT, RW, (byte & 1) ? RW : 0);
+    intake(m, byte, which, any(m, CON3, AHEN));
+}
+
+/* A high byte that fits: with R/W 0 a new address begins; with R/W 1 it asks to send, which takes the full match. */
+static void high_byte_fits(module *m, uint8_t byte)
+{
+    if (!(byte & 1)) {
+        m->full = 0;
+        take_first_byte(m, byte, HIGH);
+    } else if (m->full) {
+        take_first_byte(m, byte, HIGH_TO_SEND);
+    } else {
+        enter(m, QUIET);
+    }
+}
+
+/* Eighth fall of a first byte: whichever address it hits is taken, and in the same way; one that hits none ends the full
+   match. */
+static void first_byte_ended(module *m)
 {
     uint8_t byte = m->byte;
 
     if (address_hit(m, byte) == NO_HIT) {
+        m->full = 0;
         enter(m, QUIET);
+    } else if (ten_bits(m)) {
+        high_byte_fits(m, byte);
+    } else {
+        take_first_byte(m, byte, OTHER);
+    }
+}
+
+/* Eighth fall of a low byte, compared in all its bits; R/W stays. One that does not match changes no register. */
+static void low_byte_ended(module *m)
+{
+    uint8_t byte = m->byte;
+
+    if (byte != m->reg[ADD]) {
+        enter_slot(m, LOW, 0, 1);
         return;
     }
     clear(m, STAT, DA);
-    take(m, STAT, RW, (byte & 1) ? RW : 0);
-    intake(m, byte, any(m, CON3, AHEN));
+    intake(m, byte, LOW, any(m, CON3, AHEN));
+}
+
+/* Eighth fall of an address. */
+static void address_ended(module *m)
+{
+    if (m->which == LOW)
+        low_byte_ended(m);
+    else
+        first_byte_ended(m);
 }
 
 /* Eighth fall of a data byte. */
@@ -260,23 +374,60 @@ static void data_ended(module *m)
     uint8_t byte = m->byte;
 
     set(m, STAT, DA);
-    intake(m, byte, any(m, CON3, DHEN));
+    intake(m, byte, OTHER, any(m, CON3, DHEN));
 }
 
-/* Ninth fall of an address or data byte: SSPIF, but for a byte that ACKDT alone declined. The slot's pull ends; where there
-   was none, quiet follows. */
-static void slot_ended(module *m)
+/* Ninth fall of a byte that was not acknowledged: SSPIF where its intake was refused, and quiet. A high byte that asked to send
+   ends the full match. */
+static void not_acknowledged(module *m)
 {
-    if (m->slot != DECLINED)
+    if (m->slot == REFUSED)
         set(m, FLAG, SSPIF);
-    if (m->slot != PULLING)
-        enter(m, QUIET);
-    else if (any(m, STAT, RW) && !any(m, STAT, DA))
+    if (m->which == HIGH_TO_SEND)
+        m->full = 0;
+    enter(m, QUIET);
+}
+
+/* Ninth fall of an acknowledged seven-bit address or data byte: R/W 1 of an address asks to send, else SEN holds. */
+static void acknowledged(module *m)
+{
+    if (any(m, STAT, RW) && !any(m, STAT, DA))
         hold(m, HELD_SENDING);
     else if (any(m, CON2, SEN))
         hold(m, DATA);
     else
         enter(m, DATA);
+}
+
+/* Ninth fall of a low byte: SSPIF and the hold for ADD, whatever became of the byte; acknowledged, it makes the full match. */
+static void low_slot_ended(module *m)
+{
+    int matched = m->slot == PULLING;
+
+    set(m, FLAG, SSPIF);
+    if (matched)
+        m->full = 1;
+    hold_for_add(m, matched ? DATA_NEXT : QUIET_NEXT);
+}
+
+/* Ninth fall of a received byte: the slot's pull ends. What follows hangs on which byte it was and on its acknowledge. */
+static void slot_ended(module *m)
+{
+    if (m->which == LOW) {
+        low_slot_ended(m);
+        return;
+    }
+    if (m->slot != PULLING) {
+        not_acknowledged(m);
+        return;
+    }
+    set(m, FLAG, SSPIF);
+    if (m->which == HIGH)
+        hold_for_add(m, LOW_NEXT);
+    else if (m->which == HIGH_TO_SEND)
+        hold(m, HELD_SENDING);
+    else
+        acknowledged(m);
 }
 
 /* ---- Sending bytes ---- */
@@ -374,12 +525,20 @@ static void sample(module *m, uint8_t level)
 
 /* ---- Registers ---- */
 
+/* A register as it reads: UA of STAT is 1 exactly in the hold for ADD. */
+static uint8_t shown(const module *m, int number)
+{
+    if (number == STAT && m->phase == HELD_ADD)
+        return (uint8_t)(m->reg[STAT] | UA);
+    return m->reg[number];
+}
+
 /* A read of BUF clears BF; other reads change nothing. */
 static uint8_t read_register(module *m, int number)
 {
     if (number == BUF)
         clear(m, STAT, BF);
-    return m->reg[number];
+    return shown(m, number);
 }
 
 /* A write to BUF takes effect only while the clock is held for sending, else it sets WCOL. */
@@ -400,6 +559,7 @@ static void disable(module *m)
     clear(m, STAT, S | P | DA | RW | BF);
     clear(m, CON3, ACKTIM);
     m->mark = 0;
+    m->full = 0;
 }
 
 /* A write to CON1: WCOL and SSPOV can only be cleared; it may disable, or with CKP = 1 release. */
@@ -434,11 +594,15 @@ static void write_register(module *m, int number, uint8_t value)
     case CON3:
         take(m, CON3, 0xFF & ~ACKTIM, value);
         break;
-    case FLAG:
-        clear(m, FLAG, SSPIF & ~value);
+    case ADD:
+        m->reg[ADD] = value;
+        release_add(m);
         break;
-    default: /* ADD, MSK */
-        m->reg[number] = value;
+    case MSK:
+        m->reg[MSK] = value;
+        break;
+    default: /* FLAG */
+        clear(m, FLAG, SSPIF & ~value);
         break;
     }
 }
@@ -497,18 +661,30 @@ static void handler(module *m, uint8_t *window)
 
 /* ---- The state image ---- */
 
+/* Whether SSPM is one of the four modes allowed with SSPEN 1. */
+static int can_run(int mode)
+{
+    return mode == SEVEN || mode == SEVEN_FLAGGED || mode == TEN || mode == TEN_FLAGGED;
+}
+
+/* Whether ten bits run: the only time of the full match, of the hold for ADD and of a byte that is theirs. */
+static int running_ten(const module *m)
+{
+    return any(m, CON1, SSPEN) && ten_bits(m);
+}
+
 /* Whether the registers alone are a state's. */
 static int registers_fit(const module *m)
 {
-    int mode = m->reg[CON1] & SSPM;
-
     if (any(m, STAT, S) && any(m, STAT, P))
         return 0;
     if (any(m, STAT, UA) || any(m, CON3, BOEN) || any(m, CON2, MASTER_ONLY))
         return 0;
     if (any(m, FLAG, 0xFF & ~SSPIF))
         return 0;
-    return !any(m, CON1, SSPEN) || mode == SLAVE || mode == SLAVE_FLAGGED;
+    if (running_ten(m) && m->reg[MSK] != NO_MASK)
+        return 0;
+    return !any(m, CON1, SSPEN) || can_run(m->reg[CON1] & SSPM);
 }
 
 /* Takes the part that only three phases have, in the phase that was entered; answers whether it is one of that phase's. */
@@ -529,6 +705,25 @@ static int decode_part(module *m, uint8_t part)
     }
 }
 
+/* Takes which byte a phase belongs to, or what follows it, in the phase that was entered; answers as above. */
+static int decode_which(module *m, uint8_t part)
+{
+    switch (m->phase) {
+    case ADDRESS:
+        m->which = part;
+        return part == OTHER || part == LOW;
+    case HELD_BEFORE:
+    case SLOT:
+        m->which = part;
+        return part <= HIGH_TO_SEND;
+    case HELD_ADD:
+        m->next = part;
+        return part <= DATA_NEXT;
+    default:
+        return part == 0;
+    }
+}
+
 /* Takes the phase and its parts from an image; answers whether they are a phase's. */
 static int decode_phase(module *m, const uint8_t *image)
 {
@@ -540,7 +735,7 @@ static int decode_phase(module *m, const uint8_t *image)
     enter(m, phase);
     m->count = count;
     m->byte = byte;
-    if (!decode_part(m, image[AT_PART]))
+    if (!decode_part(m, image[AT_PART]) || !decode_which(m, image[AT_WHICH]))
         return 0;
     if (taking)
         return count <= 8 && (byte >> count) == 0 && !(m->held && count > 0);
@@ -549,24 +744,23 @@ static int decode_phase(module *m, const uint8_t *image)
     return count == 0 && byte == 0;
 }
 
-/* Takes wire, mark, n, pointer and due from an image; answers whether each is in its range. */
+/* Takes wire, mark, full match, n, pointer and due from an image; answers whether each is in its range. */
 static int decode_rest(module *m, const uint8_t *image)
 {
     int i;
 
     m->wire = image[AT_WIRE];
     m->mark = image[AT_MARK];
+    m->full = image[AT_FULL];
     m->n = (uint16_t)(image[AT_N] | image[AT_N + 1] << 8);
     m->pointer = (uint16_t)(image[AT_POINTER] | image[AT_POINTER + 1] << 8);
     m->due = image[AT_DUE];
     for (i = AT_REST; i < IMAGE; i++)
         if (image[i] != 0)
             return 0;
-    if (image[AT_GAP] != 0 || image[AT_GAP + 1] != 0)
-        return 0;
     if (m->wire > HIGHEST_LEVEL && m->wire != NONE)
         return 0;
-    return m->mark <= 1 && m->due <= 1 && m->n >= 1 && m->n <= 256 && m->pointer < m->n;
+    return m->mark <= 1 && m->full <= 1 && m->due <= 1 && m->n >= 1 && m->n <= 256 && m->pointer < m->n;
 }
 
 /* Whether registers, phase, wire and mark go together. */
@@ -577,11 +771,13 @@ static int parts_fit(const module *m)
 
     if (!any(m, CON1, SSPEN) && (m->phase != QUIET || m->mark))
         return 0;
+    if ((m->phase == HELD_ADD || m->which != OTHER || m->full) && !running_ten(m))
+        return 0;
     if (m->mark && !(any(m, STAT, S) && scl_high && m->phase == ADDRESS && m->count == 0))
         return 0;
     if (taking && m->count == 8 && !scl_high)
         return 0;
-    return !clock_held(m) || !any(m, CON1, CKP);
+    return !held_by_ckp(m) || !any(m, CON1, CKP);
 }
 
 /* Opens an image; answers whether it is a state's. */
@@ -604,6 +800,8 @@ static void encode(const module *m, uint8_t *image)
     image[AT_PART] = (uint8_t)(m->held | m->refused | m->slot);
     image[AT_WIRE] = m->wire;
     image[AT_MARK] = m->mark;
+    image[AT_WHICH] = (uint8_t)(m->which | m->next);
+    image[AT_FULL] = m->full;
     image[AT_N] = (uint8_t)(m->n & 0xFF);
     image[AT_N + 1] = (uint8_t)(m->n >> 8);
     image[AT_POINTER] = (uint8_t)(m->pointer & 0xFF);
@@ -642,10 +840,10 @@ second_answer second_setup(uint8_t *state, size_t state_length, uint8_t add, uin
     if (n < 1 || n > 256)
         return answer(NO_SUCH_WINDOW, 0, 0);
     memset(&m, 0, sizeof m);
-    m.reg[CON1] = SSPEN | CKP | SLAVE;
+    m.reg[CON1] = SSPEN | CKP | SEVEN;
     m.reg[CON2] = SEN;
     m.reg[ADD] = add;
-    m.reg[MSK] = 0xFF;
+    m.reg[MSK] = NO_MASK;
     m.wire = NONE;
     m.n = (uint16_t)n;
     encode(&m, state);
@@ -675,19 +873,29 @@ static int changes_mode_under_way(const module *m, uint8_t value)
     return stays_enabled && (value & SSPM) != (m->reg[CON1] & SSPM);
 }
 
-/* Why a write is refused, or DONE. */
-static int write_refusal(const module *m, uint32_t number, uint8_t value)
+/* Whether a write would make ten bits run under a mask; a change of mode under way is refused before. */
+static int masks_ten_bits(const module *m, uint32_t number, uint8_t value)
 {
     int mode = value & SSPM;
 
+    if (number == MSK)
+        return running_ten(m) && value != NO_MASK;
+    return number == CON1 && (value & SSPEN) && (mode == TEN || mode == TEN_FLAGGED) && m->reg[MSK] != NO_MASK;
+}
+
+/* Why a write is refused, or DONE. */
+static int write_refusal(const module *m, uint32_t number, uint8_t value)
+{
     if (number >= REGISTERS)
         return NO_REGISTER;
     if ((number == CON2 && (value & MASTER_ONLY)) || (number == CON3 && (value & BOEN)))
         return MASTER_BITS;
-    if (number == CON1 && (value & SSPEN) && mode != SLAVE && mode != SLAVE_FLAGGED)
+    if (number == CON1 && (value & SSPEN) && !can_run(value & SSPM))
         return NO_SUCH_MODE;
     if (number == CON1 && changes_mode_under_way(m, value))
         return MODE_UNDER_WAY;
+    if (masks_ten_bits(m, number, value))
+        return MASKED_TEN;
     return DONE;
 }
 
@@ -773,7 +981,7 @@ second_view second_look(const uint8_t *state, size_t state_length)
         return v;
     }
     v.buf = m.reg[BUF];
-    v.stat = m.reg[STAT];
+    v.stat = shown(&m, STAT);
     v.con1 = m.reg[CON1];
     v.con2 = m.reg[CON2];
     v.con3 = m.reg[CON3];
@@ -791,6 +999,9 @@ second_view second_look(const uint8_t *state, size_t state_length)
     v.due = m.due;
     v.n = m.n;
     v.pointer = m.pointer;
+    v.which = m.which;
+    v.next = m.next;
+    v.full = m.full;
     return v;
 }
 

@@ -1,4 +1,4 @@
-/* The second program's door: one MSSP as a 7-bit I2C slave with its handler, as a 48-byte state image. */
+/* The second program's door: one MSSP as an I2C slave of seven or ten address bits with its handler, as a 48-byte image. */
 #ifndef SECOND_H
 #define SECOND_H
 
@@ -37,6 +37,9 @@ typedef struct {
     uint8_t wire;
     uint8_t mark, due;
     uint16_t n, pointer;
+    uint8_t which; /* address, held before acknowledge, slot: 0 other, 1 high byte, 2 low byte, 3 high byte that asks to send */
+    uint8_t next;  /* held for ADD: 0 quiet, 1 the low byte, 2 data follows */
+    uint8_t full;  /* 1: both bytes of the ten-bit address were acknowledged */
 } second_view;
 
 second_answer second_setup(uint8_t *state, size_t state_length, uint8_t add, uint64_t n);
