@@ -1,8 +1,8 @@
 -- Ten bits (02, 9): UA and the hold for ADD, what ends it, and which bytes a ten-bit module acknowledges.
 use Prim.Native.Nat.{ℕ, _≤_}
 use mathlib.Core.Logic.{_⊎_, inl, inr, ⊎-elim, _↔_}
-use mathlib.Core.Path.{_≡_, refl, sym, ap, ap₂, subst, _∙_}
-use mathlib.Core.Bool.{Bool, true, false, true≢false, cond, _&&_, _||_, not}
+use mathlib.Core.Path.{_≡_, refl, sym, ap, subst, _∙_}
+use mathlib.Core.Bool.{Bool, true, false, true≢false, _&&_, _||_, not}
 use mathlib.Core.List.{List, [], _∷_, map}
 use native.Mathlib.Omega.{arith}
 use mir.Val.{boolByte}
@@ -32,12 +32,10 @@ use Rattle.mssp.specs.Drivers.{sclPulled, sdaPulled}
 use Rattle.mssp.specs.Valid.{offFits, tenFit}
 use Rattle.address.specs.Comparison.{fitting, hitOf, isTaken}
 use Rattle.address.specs.Theorems.{taken-by-test}
-use Rattle.effects.specs.Effects.{emptied, loaded, releasedPhase, nextPhase, updatedPhase}
+use Rattle.effects.specs.Effects.{emptied, releasedPhase, nextPhase, updatedPhase}
 use Rattle.sampling.specs.declared.Moved.{Moved}
 use Rattle.sampling.specs.Rules.{highIf, firstIf, lowIf, addressByte, slotEnded, fallen, edgeStep, seenIf}
 use Rattle.register_bytes.specs.Bits.{bits-back}
-use Rattle.registers.specs.declared.Register.{Register}
-use Rattle.registers.specs.declared.Register.the-variants.{Con1, Add}
 use Rattle.registers.specs.Values.{registerOf, isBUF}
 use Rattle.writes.specs.Writes.{con1Stored, con1Then, written, verdictOf}
 use Rattle.refusals.specs.Numbers.{accepted}
@@ -51,11 +49,11 @@ use Rattle.view.specs.declared.View.{View}
 use Rattle.view.specs.View.{whichSeen, nextSeen, viewOf}
 use Rattle.settling.specs.Outcome.{byState}
 use Rattle.module_calls.specs.Calls.{doorLook}
-use Rattle.demands.specs.Calls.{DoorCall, setUp, readRegister, writeRegister, feedSample, callHandler, runTrace, Host, atDoor, hasWindow, inWindow, byDefinition, ImageOf, CanEndTheHold, FollowsAsShown, Fits, Matches, EndsAs}
+use Rattle.demands.specs.Calls.{DoorCall, setUp, readRegister, writeRegister, feedSample, callHandler, runTrace, Host, atDoor, hasWindow, inWindow, byDefinition, ImageOf, CanEndTheHold, FollowsAsShown, Matches, EndsAs}
 use Rattle.demands.specs.Demands.{UAInTheHold, HeldUntilADD, EndedByADD, AcknowledgesTenBits, NinthFallOfTenBits, SevenBitsAlone}
 use Rattle.demands.specs.DemandTwo.{look-is, shown-is, image-or-none, demand-two}
 use Rattle.demands.specs.DemandOne.{by-register, shown-ten}
-use Rattle.demands.specs.Falls.{image-clauses, lowered, sample-lowers, isLow, eighth-falls}
+use Rattle.demands.specs.Falls.{image-clauses, sample-lowers, isLow, eighth-falls}
 use Rattle.demands.specs.WhichAddress.{fits-exactly, which-is, is-true}
 
 -- ---- UA

@@ -25,7 +25,7 @@ use Rattle.registers.specs.declared.Register.{Register}
 use Rattle.registers.specs.declared.Register.the-variants.{Buf, Stat, Con1, Con2, Con3, Add, Msk, Flag, Nowhere}
 use Rattle.registers.specs.Values.{registerOf, isBUF, afterRead, readOf}
 use Rattle.writes.specs.Writes.{con1Config, con1Stored, con1Then, written, writeCauses, verdictOf, writeOf}
-use Rattle.register_bytes.specs.Bytes.{byteOf, sspmOf}
+use Rattle.register_bytes.specs.Bytes.{sspmOf}
 use Rattle.register_bytes.specs.Bits.{bits-back, half-back}
 use Rattle.kept.specs.Edges.{edge-stepped, rise-short, eight-kept, ten-kept, mark-kept}
 

@@ -1,7 +1,7 @@
 -- The module's state (01, "Register numbers" and "From levels to bytes"): its makers, one setter for each bit that a rule
 -- changes, the fresh state and the set-up one. A field more is a field more here, and in the way back from an image (`module_image`).
 use Prim.Native.Nat.{ℕ}
-use mathlib.Core.Bool.{Bool, true, false, _&&_, not}
+use mathlib.Core.Bool.{Bool, true, false, _&&_}
 use Rattle.wire.specs.declared.Line.{Line}
 use Rattle.wire.specs.Wire.{unseen}
 use Rattle.mssp.specs.declared.Config.{Config}
@@ -100,7 +100,7 @@ setMSK v c =
 
 -- SSPM 0110 and 1110 are modelled, and for ten bits 0111 and 1111 (02, 9); those with SSPM3 interrupt at Start and Stop.
 abbrev pub modelled : Bool → Bool → Bool
-modelled sspm2 sspm1 = sspm2 && sspm1
+modelled sspm2 sspm1 = sspm1 && sspm2
 
 abbrev pub tenBits : Bool → Bool → Bool → Bool
 tenBits sspm2 sspm1 sspm0 = sspm2 && sspm1 && sspm0

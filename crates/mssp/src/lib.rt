@@ -171,7 +171,7 @@ pub fn pick_module(first: bool, m: Module, n: Module) -> Module
 pub fn is_modelled(sspm2: bool, sspm1: bool) -> bool
     ensures { λ r. ⌜ r ≡ modelled sspm2 sspm1 ⌝ }
 {
-    sspm2 & sspm1
+    sspm1 & sspm2
 }
 
 // SSPM is 0111 or 1111.
