@@ -14,6 +14,7 @@
    - An image is good for this version of the library. One that an older version made means the same or is refused with 6,
      and is never misread. Of the images of 0.3.0 those of an acknowledge slot that does not pull are refused: they do not
      say whether the byte was. The layout is in docs/LAYOUT.md.
+   - wherryoar_view has grown at its end with 0.6.0: a host is compiled against the header of the archive that it links.
    - A call takes at most 704 bytes of stack, wherryoar_sample at most 512, and at most 300 where the sample leaves the state
      as it is: the level is on the wire what is remembered of it.
    - Compiled for x86-64.                                                                                             */
@@ -77,7 +78,7 @@ extern "C" {
 /* Which address a first byte hits. */
 #define WHERRYOAR_NO_HIT 0          /* none: the module takes no part in the message */
 #define WHERRYOAR_OWN_HIT 1         /* its own: the byte fits ADD under MSK; 00 too, where it fits */
-#define WHERRYOAR_GENERAL_CALL 2    /* the general call: 00 where GCEN is 1, and it does not fit */
+#define WHERRYOAR_GENERAL_CALL 2    /* the general call: 00 where GCEN is 1, and it does not fit; never in a ten-bit mode */
 
 /* An item of a trace: a level 0 to 3 (2 * SCL + SDA) is a sample, this one a handler call. */
 #define WHERRYOAR_CALL_ITEM 4
@@ -106,7 +107,8 @@ typedef struct {
     uint8_t bits;      /* address, data: bits so far, 0 to 8; sending: the place, 0 to 7; else 0 */
     uint8_t byte;      /* address, data: those bits as a number; sending: the byte; else 0 */
     uint8_t refused;   /* held before acknowledge, slot: 1 where BF or SSPOV refused the byte, which sets SSPIF when the slot
-                          ends; 0 where it is acknowledged, or declined by ACKDT (no SSPIF), and in every other phase */
+                          ends; 0 where it is acknowledged, or declined by ACKDT (no SSPIF but after a low byte), where a low
+                          byte does not match, and in every other phase */
     uint8_t wire;      /* the remembered wire, 0 to 3; 255: none yet */
     uint8_t mark;      /* 1: a Start has come and SCL has not been low since */
     uint8_t due;       /* 1: the next data byte is the pointer */
@@ -127,11 +129,17 @@ wherryoar_answer wherryoar_setup(uint8_t *state, size_t state_length, uint8_t ad
 wherryoar_answer wherryoar_read(uint8_t *state, size_t state_length, uint32_t number);
 
 /* Writes a register. WCOL, SSPOV and SSPIF can only be cleared; ACKSTAT and ACKTIM ignore writes; STAT takes SMP and CKE;
-   BUF takes the byte while the clock is held for sending and else sets WCOL; CKP 1 in CON1 ends a hold. The mode stands while
-   the module runs: to go from SSPM 0110, which setup chooses, to 1110, write CON1 with SSPEN 0 first, then 3E.
+   BUF takes the byte while the clock is held for sending and else sets WCOL; CKP 1 in CON1 ends a hold, but not the one for
+   ADD, which ADD ends. The mode stands while the module runs: to go from SSPM 0110, which setup chooses, to 1110, write CON1
+   with SSPEN 0 first, then 3E.
+   Ten-bit addresses (SSPM 0111, and 1111 with the interrupts of 1110): with SSPEN 0 write the high byte, 11110 A9 A8 0, to
+   ADD, then 37 to CON1. After an acknowledged high byte with R/W 0 (next is WHERRYOAR_NEXT_LOW_BYTE), and after every low
+   byte, SSPIF and UA are 1 and the clock is held until ADD is written: with the low byte, then with the high byte again.
+   wherryoar_call does not do that: the handler is for seven bits. examples/ten_bit.c is a firmware for ten.
    Refuses with 6 (no state's image), 1 (number above 7), 2 (CON2 bits 4..1 or BOEN set), 3 (CON1 with SSPEN 1 and another
-   SSPM than 0110 and 1110), 8 (CON1 with SSPEN 1 where SSPEN is 1, in whatever phase, and another SSPM than the one that
-   stands). After a refusal the state is as it was: no hold is ended, and WCOL and SSPOV are not cleared. */
+   SSPM than 0110, 1110, 0111 and 1111), 8 (CON1 with SSPEN 1 where SSPEN is 1, in whatever phase, and another SSPM than the one
+   that stands), 9 (CON1 with SSPEN 1 and SSPM 0111 or 1111 where MSK is not FF; MSK with another value than FF where SSPEN is 1
+   and SSPM is 0111 or 1111). After a refusal the state is as it was: no hold is ended, and WCOL and SSPOV are not cleared. */
 wherryoar_answer wherryoar_write(uint8_t *state, size_t state_length, uint32_t number, uint8_t value);
 
 /* Feeds one sample: what everybody else drives, 2 * SCL + SDA. The wire is low where the sample is low or the module pulls.
@@ -155,10 +163,12 @@ wherryoar_view wherryoar_look(const uint8_t *state, size_t state_length);
 
 /* Which address a first byte after a Start hits by this state's registers, whether the module is enabled or not: value is 0
    none, 1 own, 2 general call, as above. It fits where it has ADD's bit in each of bits 7..1 whose MSK bit is 1; bit 0 is R/W,
-   and bit 0 of ADD and of MSK plays no part. Own comes before general call, and 01 is no general call. An enabled module takes
+   and bit 0 of ADD and of MSK plays no part. Own comes before general call, and 01 is no general call. Where SSPM is 0111 or
+   1111 the byte is a high byte: own where it has ADD's bits 7..1, whatever MSK and GCEN are, else none. An enabled module takes
    the byte in, at the fall after its eighth bit, exactly where this says own or general call, and both in the same way: what it
-   shows afterwards does not tell which. To label an address on screen, ask with the byte that wherryoar_look shows in
-   WHERRYOAR_ADDRESS with 8 bits, before that fall.
+   shows afterwards does not tell which; but a high byte with R/W 1 only while the full match stands. To label an address on
+   screen, ask with the byte that wherryoar_look shows in WHERRYOAR_ADDRESS with 8 bits, before that fall; where its which is
+   WHERRYOAR_LOW_BYTE it is no first byte, and matches where it is ADD.
    Changes nothing. Refuses with 6 (no state's image). */
 wherryoar_answer wherryoar_hit(const uint8_t *state, size_t state_length, uint8_t byte);
 

@@ -1,7 +1,7 @@
 #!/usr/bin/env bash
 # Builds the archive and installs it with its header and a pkg-config file: tools/install.sh PREFIX
 set -eu
-version=0.5.1
+version=0.6.0
 if [ $# -ne 1 ]; then
     echo "usage: tools/install.sh PREFIX" >&2
     exit 2

@@ -33,7 +33,7 @@ pub extern "C" fn wherryoar_read(state: &mut [u8], number: u32) -> Answer
     module_calls::read(state, number)
 }
 
-// Writes a register. Refuses with 6, 1, 2, 3, 8.
+// Writes a register. Refuses with 6, 1, 2, 3, 8, 9.
 #[no_mangle]
 pub extern "C" fn wherryoar_write(state: &mut [u8], number: u32, value: u8) -> Answer
     ensures { λ r. ⌜ outcome r (now (state .exit)) ≡ doorWrite (now (state .entry)) number value ⌝ }

@@ -43,7 +43,7 @@ pub fn read(state: &mut [u8], number: u32) -> Answer
     settle_access(state, registers::read(m, number))
 }
 
-// Writes a register. Refuses with 6, 1, 2, 3, 8.
+// Writes a register. Refuses with 6, 1, 2, 3, 8, 9.
 pub fn write(state: &mut [u8], number: u32, value: u8) -> Answer
     ensures { λ r. ⌜ outcome r (now (state .exit)) ≡ doorWrite (now (state .entry)) number value ⌝ }
 {
