@@ -1,4 +1,4 @@
-/* The rows of a picture in text, a character for each item: what the hosts in this folder draw with. */
+/* What the hosts in this folder share: the items of a capture, and the rows of a picture in text, a character for each item. */
 #ifndef ROWS_H
 #define ROWS_H
 
@@ -11,6 +11,16 @@ enum { SDA = 1, SCL = 2 }; /* of a level */
 enum { P = 0x10 };         /* of STAT */
 enum { SSPIF = 1 };        /* of the flag */
 enum { WIDTH = 80 };       /* items in a piece of the picture */
+
+/* The next item of a capture: a digit 0 to 3, or h; spaces and newlines are skipped. EOF at its end, 0 where it is no item. */
+static int next_item(FILE *file)
+{
+    int c = getc(file);
+
+    while (c == ' ' || c == '\n')
+        c = getc(file);
+    return c == EOF || c == 'h' || (c >= '0' && c <= '3') ? c : 0;
+}
 
 /* A row of the picture, from one item up to another. */
 typedef struct {
