@@ -217,16 +217,11 @@ half-other true true true true = (λ t. never t, λ k. absurd (k .2 (inr refl)))
 half-other true true true false = (λ t. never t, λ k. absurd (k .1 refl))
 half-other false true true true = (λ t. never t, λ k. absurd (k .2 (inl refl)))
 half-other false true true false = (λ t. never t, λ k. absurd (k .0 refl))
-half-other b3 b2 false b0 = (
-  λ t. (
-    λ e. omega (arith, small b2, small b0),
-    λ e. omega (arith, small b2, small b0),
-    ⊎-elim (λ e. omega (arith, small b2, small b0)) (λ e. omega (arith, small b2, small b0)),
-  ),
-  λ k. refl,
-)
+half-other b3 b2 false b0 =
+    let s = small b2 in let t = small b0 in
+    (λ u. (λ e. omega (arith, s, t), λ e. omega (arith, s, t), ⊎-elim (λ e. omega (arith, s, t)) (λ e. omega (arith, s, t))), λ k. refl)
 half-other b3 false true b0 =
-    (λ t. (λ e. omega (arith, small b0), λ e. omega (arith, small b0), ⊎-elim (λ e. omega (arith, small b0)) (λ e. omega (arith, small b0))), λ k. refl)
+    let t = small b0 in (λ u. (λ e. omega (arith, t), λ e. omega (arith, t), ⊎-elim (λ e. omega (arith, t)) (λ e. omega (arith, t))), λ k. refl)
 
 other-mode :
     (v : ℕ) → (not (modelled (bit 2 v) (bit 1 v)) ≡ true) ↔ ((v % 16 ≡ 6 → ⊥) × (v % 16 ≡ 14 → ⊥) × (HasTenBits v → ⊥))

@@ -5,6 +5,5 @@ pub mod DemandOne
 pub mod DemandThree
 pub mod HandlerIsFirmware
 pub mod ModeStays
-pub mod Falls
 pub mod WhichAddress
 pub mod TenBits

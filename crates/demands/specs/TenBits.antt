@@ -2,7 +2,7 @@
 use Prim.Native.Nat.{ℕ, _≤_}
 use mathlib.Core.Logic.{_⊎_, inl, inr, ⊎-elim, _↔_}
 use mathlib.Core.Path.{_≡_, refl, sym, ap, subst, _∙_}
-use mathlib.Core.Bool.{Bool, true, false, true≢false, _&&_, _||_, not}
+use mathlib.Core.Bool.{Bool, true, false, true≢false, cond, _&&_, _||_, not}
 use mathlib.Core.List.{List, [], _∷_, map}
 use native.Mathlib.Omega.{arith}
 use mir.Val.{boolByte}
@@ -24,10 +24,10 @@ use Rattle.mssp.specs.declared.Which.the-variants.{Other, High, Low, HighToSend
 use Rattle.mssp.specs.declared.Next.{Next}
 use Rattle.mssp.specs.declared.Next.the-variants.{NextQuiet, NextLow, NextData}
 use Rattle.mssp.specs.declared.Phase.{Phase}
-use Rattle.mssp.specs.declared.Phase.the-variants.{Quiet, Address, Data, HeldBefore, Slot, HeldForSending, Sending, MasterAcknowledge, HeldForAdd}
+use Rattle.mssp.specs.declared.Phase.the-variants.{Slot, HeldForAdd}
 use Rattle.mssp.specs.declared.Module.{Module}
 use Rattle.mssp.specs.Module.{isTenBit}
-use Rattle.mssp.specs.Phases.{whichNumber, phaseNumber, bitsOf, phaseWhich, isHeldForAdd, ofTenBits}
+use Rattle.mssp.specs.Phases.{whichNumber, phaseNumber, bitsOf, phaseMark, phaseWhich, isHeldForAdd, ofTenBits}
 use Rattle.mssp.specs.Drivers.{sclPulled, sdaPulled}
 use Rattle.mssp.specs.Valid.{offFits, tenFit}
 use Rattle.address.specs.Comparison.{fitting, hitOf, isTaken}
@@ -44,7 +44,8 @@ use Rattle.firmware.specs.Handler.{Served, served, acknowledged, serve, calledI
 use Rattle.firmware.specs.Window.{windowOf}
 use Rattle.steps.specs.Step.{afterAll}
 use Rattle.trace.specs.Run.{firstBad, itemAt, byteStepIf, byteStep, runOf}
-use Rattle.phase_image.specs.PhasePart.{wireByte}
+use Rattle.phase_image.specs.PhasePart.{slotFrom, whichFrom, nextFrom, wireByte}
+use Rattle.phase_image.specs.Laws.{by-number}
 use Rattle.view.specs.declared.View.{View}
 use Rattle.view.specs.View.{whichSeen, nextSeen, viewOf}
 use Rattle.settling.specs.Outcome.{byState}
@@ -53,8 +54,7 @@ use Rattle.demands.specs.Calls.{DoorCall, setUp, readRegister, writeRegi
 use Rattle.demands.specs.Demands.{UAInTheHold, HeldUntilADD, EndedByADD, AcknowledgesTenBits, NinthFallOfTenBits, SevenBitsAlone}
 use Rattle.demands.specs.DemandTwo.{look-is, shown-is, image-or-none, demand-two}
 use Rattle.demands.specs.DemandOne.{by-register, shown-ten}
-use Rattle.demands.specs.Falls.{image-clauses, sample-lowers, isLow, eighth-falls}
-use Rattle.demands.specs.WhichAddress.{fits-exactly, which-is, is-true}
+use Rattle.demands.specs.WhichAddress.{fits-exactly, image-clauses, sample-lowers, isLow, eighth-falls, which-is, is-true}
 
 -- ---- UA
 stat-ua : (s : State) → bit 1 (viewOf s .stat) ≡ isHeldForAdd (s .mssp .phase)
@@ -76,15 +76,7 @@ ua-in-the-hold h =
 
 -- ---- the hold for ADD, from call to call
 add-by : (ph : Phase) → phaseNumber ph ≡ 8 → (next : Next) × (ph ≡ HeldForAdd next)
-add-by (HeldForAdd next) e = (next, refl)
-add-by Quiet e = absurd (omega arith)
-add-by (Address bits low) e = absurd (omega arith)
-add-by (Data bits held) e = absurd (omega arith)
-add-by (HeldBefore refused which) e = absurd (omega arith)
-add-by (Slot slot which) e = absurd (omega arith)
-add-by HeldForSending e = absurd (omega arith)
-add-by (Sending byte place) e = absurd (omega arith)
-add-by MasterAcknowledge e = absurd (omega arith)
+add-by ph e = (nextFrom (phaseWhich ph), sym (by-number ph e))
 
 module _ (next : Next) where
   abbrev Waits : Module → Type 0
@@ -259,17 +251,14 @@ byte-is : (b : Bool) → (boolByte b ≡ 1) ↔ (b ≡ true)
 byte-is b = (is-true b, λ e. ap boolByte e)
 
 -- Either kind of address, by the number that look shows.
+low-by : (low : Bool) → let n : ℕ = cond low (whichNumber Low) (whichNumber Other) in ((n ≡ 0) × (eqb n 2 ≡ false)) ⊎ ((n ≡ 2) × (eqb n 2 ≡ true))
+low-by true = inr (refl, refl)
+low-by false = inl (refl, refl)
+
 which-two : (ph : Phase) → phaseNumber ph ≡ 1 → ((phaseWhich ph ≡ 0) × (isLow ph ≡ false)) ⊎ ((phaseWhich ph ≡ 2) × (isLow ph ≡ true))
-which-two (Address bits true) e = inr (refl, refl)
-which-two (Address bits false) e = inl (refl, refl)
-which-two Quiet e = absurd (omega arith)
-which-two (Data bits held) e = absurd (omega arith)
-which-two (HeldBefore refused which) e = absurd (omega arith)
-which-two (Slot slot which) e = absurd (omega arith)
-which-two HeldForSending e = absurd (omega arith)
-which-two (Sending byte place) e = absurd (omega arith)
-which-two MasterAcknowledge e = absurd (omega arith)
-which-two (HeldForAdd next) e = absurd (omega arith)
+which-two ph e =
+    subst (λ (x : Phase). ((phaseWhich x ≡ 0) × (isLow x ≡ false)) ⊎ ((phaseWhich x ≡ 2) × (isLow x ≡ true))) (by-number ph e)
+    (low-by (eqb (phaseWhich ph) 2))
 
 module _ (s : State) (ten : isTenBit (s .mssp .config) ≡ true) (number : phaseNumber (s .mssp .phase) ≡ 1) (a : s .mssp .config .ahen ≡ false) (b : s .mssp .live .bf ≡ false) (o : s .mssp .live .sspov ≡ false) where
   abbrev byteOf : ℕ
@@ -328,15 +317,7 @@ acknowledges-ten-bits h level low ten p e a b o =
 
 -- ---- the ninth fall
 slot-by : (ph : Phase) → phaseNumber ph ≡ 4 → (slot : SlotCase) × (which : Which) × (ph ≡ Slot slot which)
-slot-by (Slot slot which) e = (slot, which, refl)
-slot-by Quiet e = absurd (omega arith)
-slot-by (Address bits low) e = absurd (omega arith)
-slot-by (Data bits held) e = absurd (omega arith)
-slot-by (HeldBefore refused which) e = absurd (omega arith)
-slot-by HeldForSending e = absurd (omega arith)
-slot-by (Sending byte place) e = absurd (omega arith)
-slot-by MasterAcknowledge e = absurd (omega arith)
-slot-by (HeldForAdd next) e = absurd (omega arith)
+slot-by ph e = (slotFrom (phaseMark ph), whichFrom (phaseWhich ph), sym (by-number ph e))
 
 -- SCL was high where the wire's number is 2 or 3.
 was-high : (seen : Remembered) → 2 ≤ wireByte seen → wireByte seen ≤ 3 → (mark sda : Bool) → edgeFrom mark seen false sda ≡ Fall

@@ -1,39 +1,53 @@
--- Which address hit (02, 1): what hit says, by the registers that look shows; and the module takes an address just as it says.
-use Prim.Native.Nat.{ℕ, _/_, _%_, _^_}
+-- Which address hit (02, 1): what hit says, by the registers that look shows; what a sample with SCL low does to a state's image; and
+-- the module takes an address just as hit says.
+use Prim.Native.Nat.{ℕ, _/_, _%_, _^_, _≤_}
 use mathlib.Core.Logic.{_⊎_, inl, inr, ⊎-elim, _↔_}
 use mathlib.Core.Path.{_≡_, refl, sym, ap, subst, _∙_}
-use mathlib.Core.Bool.{Bool, true, false, true≢false, _&&_}
+use mathlib.Core.Bool.{Bool, true, false, true≢false, _&&_, not, and-false}
+use mathlib.Core.List.{[], _∷_}
 use native.Mathlib.Omega.{arith}
 use mir.Val.{boolByte}
-use lib.Dec.{eqb}
-use borrow.Author.Tests.{eqb-true, eqb-false, eq-eqb}
-use Rattle.truth.specs.Tests.{by-test, never}
+use lib.Dec.{T, eqb, eqb→eq}
+use borrow.Author.Tests.{eqb-true, eqb-false, eq-eqb, ne-eqb, lt-ltb}
+use Rattle.truth.specs.Tests.{by-test, never, and-left}
+use Rattle.wire.specs.declared.Bits.{Bits}
+use Rattle.wire.specs.declared.Remembered.{Remembered}
+use Rattle.wire.specs.declared.Remembered.the-variants.{Nothing, Wire}
 use Rattle.wire.specs.Byte.{bit}
+use Rattle.wire.specs.Wire.{sdaOf, onWire, edgeFrom}
 use Rattle.mssp.specs.declared.Config.{Config}
 use Rattle.mssp.specs.declared.Live.{Live}
 use Rattle.mssp.specs.declared.Which.{Which}
 use Rattle.mssp.specs.declared.Which.the-variants.{Other, High, HighToSend}
 use Rattle.mssp.specs.declared.Phase.{Phase}
+use Rattle.mssp.specs.declared.Phase.the-variants.{Address}
+use Rattle.mssp.specs.declared.Module.{Module}
 use Rattle.mssp.specs.Module.{isTenBit, setDA, setRW, setFull}
-use Rattle.mssp.specs.Phases.{phaseNumber, bitsOf, phaseWhich}
+use Rattle.mssp.specs.Phases.{phaseNumber, bitsOf, phaseWhich, isQuiet}
+use Rattle.mssp.specs.Drivers.{sdaPulled}
+use Rattle.mssp.specs.Valid.{offFits, eightFit, valid, Valid}
+use Rattle.mssp.specs.Laws.{clauses}
 use Rattle.address.specs.declared.Hit.{Hit}
 use Rattle.address.specs.declared.Hit.the-variants.{None, Own, GeneralCall}
 use Rattle.address.specs.Comparison.{hitNumber, agrees, fitting, hitOf, isTaken}
 use Rattle.address.specs.Theorems.{own-said, general-said}
 use Rattle.sampling.specs.declared.Moved.{Moved}
-use Rattle.sampling.specs.Rules.{intake, highIf, firstIf, addressByte}
+use Rattle.sampling.specs.Rules.{intake, highIf, firstIf, addressByte, _at_, edgeStep, seenIf}
 use Rattle.register_bytes.specs.Bytes.{con1Of}
 use Rattle.register_bytes.specs.Bits.{bits-back}
+use Rattle.firmware.specs.declared.State.{State}
+use Rattle.firmware.specs.Handler.{Served, served}
+use Rattle.phase_image.specs.Laws.{by-number}
+use Rattle.image.specs.HandlerPart.{handlerValid}
 use Rattle.view.specs.declared.View.{View}
-use Rattle.view.specs.View.{whichSeen}
+use Rattle.view.specs.View.{whichSeen, viewOf}
 use Rattle.settling.specs.declared.Answer.{Answer}
 use Rattle.settling.specs.Outcome.{byState}
 use Rattle.module_calls.specs.Calls.{doorLook, doorHit}
-use Rattle.demands.specs.Calls.{shownCON1, HasTenBits, AgreesIn, Fits, TakenAsSaid}
+use Rattle.demands.specs.Calls.{shownCON1, HasTenBits, AgreesIn, Fits, TakenAsSaid, feedSample, Host, atDoor, byDefinition, ImageOf}
 use Rattle.demands.specs.Demands.{HitSays, TakesWhatHits}
-use Rattle.demands.specs.DemandTwo.{look-is, hit-is, image-or-none}
+use Rattle.demands.specs.DemandTwo.{look-is, hit-is, image-or-none, demand-two}
 use Rattle.demands.specs.DemandOne.{both, is-one, equal, shown-ten}
-use Rattle.demands.specs.Falls.{sample-lowers, eighth-falls}
 
 -- ---- a byte fits
 agrees-in : (i add msk byte : ℕ) → (agrees i add msk byte ≡ true) ↔ AgreesIn i add msk byte
@@ -101,6 +115,76 @@ hit-says h byte accepted =
       one-of (hitOf c byte),
     ))
     (image-or-none (h .state))
+
+-- ---- a sample with SCL low, by what its fall does to the module
+-- The clauses that the module of a state's image meets.
+pub image-clauses : (s : State) (h : Host) → ImageOf s (h .state) → Valid (s .mssp)
+image-clauses s h image = clauses (s .mssp) (and-left (valid (s .mssp)) (handlerValid (s .handler)) (image .1))
+
+-- What the edge of a sample with SCL low does.
+abbrev pub lowered : Module → ℕ → Moved
+lowered m level =
+    edgeStep (m .config) (m .live) (m .phase)
+    (edgeFrom (m .line .mark) (m .line .remembered) false (onWire (sdaPulled (m .phase)) (sdaOf level)))
+
+-- The state that it leaves, as look shows it.
+pub record Lowered (h : Host) (level : ℕ) (s : State) : Type 0 where
+  pub left : State
+  pub shown : doorLook (atDoor h (feedSample level) .left .state) ≡ viewOf left
+  pub moved : left .mssp .live at left .mssp .phase ≡ lowered (s .mssp) level
+
+low-sample :
+    (w : Served) (level : ℕ) → level ≤ 1 → let m : Module = w .state .mssp in
+    byDefinition w (feedSample level) .left .state .mssp ≡ seenIf (m .config .sspen) m false (onWire (sdaPulled (m .phase)) (sdaOf level))
+low-sample w level low =
+    let high : level / 2 ^ 1 % 2 ≡ 1 → ⊥ = λ e. omega arith in
+    rw (lt-ltb level 4 (omega arith), ne-eqb (level / 2 ^ 1 % 2) 1 high, and-false)
+
+-- A module that is not quiet is enabled.
+enabled-moves :
+    (on : Bool) (m : Module) (sda : Bool) → T (offFits on (m .phase) (m .line .mark)) → (phaseNumber (m .phase) ≡ 0 → ⊥)
+    → let after : Module = seenIf on m false sda in
+    after .live at after .phase ≡ edgeStep (m .config) (m .live) (m .phase) (edgeFrom (m .line .mark) (m .line .remembered) false sda)
+enabled-moves true m sda off busy = refl
+enabled-moves false m sda off busy = absurd (busy (eqb→eq (phaseNumber (m .phase)) 0 (and-left (isQuiet (m .phase)) (not (m .line .mark)) off)))
+
+pub sample-lowers :
+    (s : State) (h : Host) → ImageOf s (h .state) → (level : ℕ) → level ≤ 1 → (phaseNumber (s .mssp .phase) ≡ 0 → ⊥) → Lowered h level s
+sample-lowers s h image level low busy =
+    let m = s .mssp in
+    let w : Served = served s (h .buffer) in
+    let is = low-sample w level low in
+    record {
+      left = byDefinition w (feedSample level) .left .state;
+      shown = demand-two s h (feedSample level ∷ []) image .3;
+      moved =
+          ap (λ (n : Module). n .live at n .phase) is
+          ∙ enabled-moves (m .config .sspen) m (onWire (sdaPulled (m .phase)) (sdaOf level)) (image-clauses s h image .off) busy;
+    }
+
+-- ---- an eighth fall: in an address of eight bits SCL was high
+abbrev pub isLow : Phase → Bool
+isLow ph = eqb (phaseWhich ph) 2
+
+falls-eighth :
+    (c : Config) (l : Live) (bits : Bits) (low mark : Bool) (seen : Remembered) (sda : Bool) → bits .count ≡ 8
+    → T (eightFit (Address bits low) seen)
+    → edgeStep c l (Address bits low) (edgeFrom mark seen false sda) ≡ addressByte (isLow (Address bits low)) c l (bits .value)
+falls-eighth c l bits true mark (Wire true before) sda e k = rw e refl
+falls-eighth c l bits false mark (Wire true before) sda e k = rw e refl
+falls-eighth c l bits low mark (Wire false before) sda e k = absurd (rw e at k)
+falls-eighth c l bits low mark Nothing sda e k = absurd (rw e at k)
+
+pub eighth-falls :
+    (s : State) (h : Host) → ImageOf s (h .state) → (level : ℕ) → phaseNumber (s .mssp .phase) ≡ 1 → bitsOf (s .mssp .phase) .count ≡ 8
+    → lowered (s .mssp) level ≡ addressByte (isLow (s .mssp .phase)) (s .mssp .config) (s .mssp .live) (bitsOf (s .mssp .phase) .value)
+eighth-falls s h image level p e =
+    let m = s .mssp in let is = by-number (m .phase) p in
+    let sda = onWire (sdaPulled (m .phase)) (sdaOf level) in
+    subst
+    (λ (ph : Phase). T (eightFit ph (m .line .remembered)) → edgeStep (m .config) (m .live) ph (edgeFrom (m .line .mark) (m .line .remembered) false sda) ≡ addressByte (isLow ph) (m .config) (m .live) (bitsOf ph .value))
+    is (falls-eighth (m .config) (m .live) (bitsOf (m .phase)) (eqb (phaseWhich (m .phase)) 2) (m .line .mark) (m .line .remembered) sda e)
+    (image-clauses s h image .eight)
 
 -- ---- what the module takes
 pub which-is : (ph : Phase) → phaseNumber ph ≡ 1 → phaseWhich ph ≡ whichSeen ph

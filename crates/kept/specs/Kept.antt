@@ -4,7 +4,7 @@ use mathlib.Core.Path.{_≡_, refl, sym, ap, _∙_}
 use mathlib.Core.Bool.{Bool, true, false, true≢false, _||_, _&&_, not}
 use lib.Dec.{T, eqb, eqb→eq}
 use borrow.Author.Tests.{eqb-true}
-use Rattle.truth.specs.Tests.{and-both, and-left, and-right, or-left, or-right, by-choice, never}
+use Rattle.truth.specs.Tests.{and-both, and-left, and-right, or-left, or-right, neither, by-choice, never}
 use Rattle.wire.specs.Byte.{bit}
 use Rattle.wire.specs.Wire.{edgeOf, onWire, sclHigh}
 use Rattle.refusals.specs.Numbers.{accepted}
@@ -71,7 +71,7 @@ seen-kept true m scl sda e v =
       mark = mark-kept (m .config) (m .live) (m .phase) (m .line .mark) (m .line .remembered) scl sda (v .mark);
       eight = eight-kept (m .config) (m .live) (m .phase) (m .line .mark) (m .line .remembered) scl sda (v .parts) (v .hold) (v .eight);
       hold = n .hold;
-      ten = runs-in (m .config .sspen) _ _ e (ten-kept (m .config) (m .live) (m .phase) (edgeOf (m .line) scl sda) (runs-out (m .config .sspen) _ _ e (v .ten)));
+      ten = runs-in (m .config .sspen) _ _ e (ten-kept (m .config) (m .live) (m .phase) (edgeOf (m .line) scl sda) (runs-out (m .config .sspen) _ _ e (v .ten)) (n .alone));
     }
 seen-kept false m scl sda e v =
     let o : T (isQuiet (m .phase) && not (m .line .mark)) = rw e at (v .off) in
@@ -123,15 +123,11 @@ accepted-mode true true false none h k = tt
 accepted-mode true true true true h k = tt
 accepted-mode true true true false h k = absurd (true≢false k)
 
--- So does one to MSK, whatever it was before.
-accepted-mask :
-    (on mode ten was none : Bool) → on && ten && not none ≡ false → T (not on || mode && (not ten || was))
-    → T (not on || mode && (not ten || none))
-accepted-mask false mode ten was none k h = tt
-accepted-mask true false ten was none k h = h
-accepted-mask true true false was none k h = tt
-accepted-mask true true true was true k h = tt
-accepted-mask true true true was false k h = absurd (true≢false k)
+-- So does one to MSK: the mode is the one that stands.
+mode-stands : (on mode other : Bool) → T (not on || mode && other) → on && not mode ≡ false
+mode-stands false mode other h = refl
+mode-stands true true other h = refl
+mode-stands true false other h = absurd h
 
 -- Where SSPM is not changed, neither is whether it has ten bits.
 same-ten :
@@ -152,37 +148,26 @@ ten-runs true true ten now true x e k f h = rw (f refl) h
 ten-runs true true ten now false x e k f h = absurd (true≢false k)
 
 -- CKP 1 ends every hold but the one for ADD, and leaves bits and marks as they were.
-released-parts : (ackdt : Bool) (buf : ℕ) (ph : Phase) → T (partsFit ph) → T (partsFit (releasedPhase ackdt buf ph))
-released-parts ackdt buf Quiet h = tt
-released-parts ackdt buf (Address bits low) h = h
-released-parts ackdt buf (Data bits held) h = and-right (not (sclPulled (Data bits held)) || noBits bits) (bitsFit bits) h
-released-parts ackdt buf (HeldBefore refused which) h = tt
-released-parts ackdt buf (Slot slot which) h = tt
-released-parts ackdt buf HeldForSending h = tt
-released-parts ackdt buf (Sending byte place) h = h
-released-parts ackdt buf MasterAcknowledge h = tt
-released-parts ackdt buf (HeldForAdd next) h = tt
-
 released-same :
     (ackdt : Bool) (buf : ℕ) (ph : Phase)
     → (isQuiet (releasedPhase ackdt buf ph) ≡ isQuiet ph) × (addressBegins (releasedPhase ackdt buf ph) ≡ addressBegins ph)
     × (eightBits (releasedPhase ackdt buf ph) ≡ eightBits ph) × (ofTenBits (releasedPhase ackdt buf ph) ≡ ofTenBits ph)
-    × T (holdFits (releasedPhase ackdt buf ph) true)
-released-same ackdt buf Quiet = (refl, refl, refl, refl, tt)
-released-same ackdt buf (Address bits low) = (refl, refl, refl, refl, tt)
-released-same ackdt buf (Data bits held) = (refl, refl, refl, refl, tt)
-released-same ackdt buf (HeldBefore refused which) = (refl, refl, refl, refl, tt)
-released-same ackdt buf (Slot slot which) = (refl, refl, refl, refl, tt)
-released-same ackdt buf HeldForSending = (refl, refl, refl, refl, tt)
-released-same ackdt buf (Sending byte place) = (refl, refl, refl, refl, tt)
-released-same ackdt buf MasterAcknowledge = (refl, refl, refl, refl, tt)
-released-same ackdt buf (HeldForAdd next) = (refl, refl, refl, refl, tt)
+    × T (holdFits (releasedPhase ackdt buf ph) true) × (T (partsFit ph) → T (partsFit (releasedPhase ackdt buf ph)))
+released-same ackdt buf Quiet = (refl, refl, refl, refl, tt, λ h. h)
+released-same ackdt buf (Address bits low) = (refl, refl, refl, refl, tt, λ h. h)
+released-same ackdt buf (Data bits held) = (refl, refl, refl, refl, tt, and-right (not (sclPulled (Data bits held)) || noBits bits) (bitsFit bits))
+released-same ackdt buf (HeldBefore refused which) = (refl, refl, refl, refl, tt, λ h. h)
+released-same ackdt buf (Slot slot which) = (refl, refl, refl, refl, tt, λ h. h)
+released-same ackdt buf HeldForSending = (refl, refl, refl, refl, tt, λ h. h)
+released-same ackdt buf (Sending byte place) = (refl, refl, refl, refl, tt, λ h. h)
+released-same ackdt buf MasterAcknowledge = (refl, refl, refl, refl, tt, λ h. h)
+released-same ackdt buf (HeldForAdd next) = (refl, refl, refl, refl, tt, λ h. h)
 
 pub released-kept : (m : Module) → Valid m → Valid (released m)
 released-kept m v =
     let r = released-same (m .config .ackdt) (m .live .buf) (m .phase) in
     record {
-      parts = released-parts (m .config .ackdt) (m .live .buf) (m .phase) (v .parts);
+      parts = r .5 (v .parts);
       condition = v .condition;
       mode = v .mode;
       off = rw (r .0) (v .off);
@@ -211,42 +196,33 @@ next-fits NextQuiet ckp = (tt, tt, tt)
 next-fits NextLow ckp = (tt, tt, tt)
 next-fits NextData ckp = (tt, tt, tt)
 
-on-alone : (on other : Bool) → T (on || false) → T (on || other)
-on-alone true other h = tt
-on-alone false other h = absurd h
-
-no-mark : (mark s high other : Bool) → T (not mark || s && high && false) → T (not mark || s && high && other)
-no-mark true true true other h = absurd h
-no-mark true true false other h = h
-no-mark true false high other h = h
-no-mark false s high other h = tt
-
-ten-alone : (runs full other : Bool) → T (runs || not (full || true)) → T (runs || other)
-ten-alone true full other h = tt
-ten-alone false true other h = absurd h
-ten-alone false false other h = absurd h
+-- A test that holds by its left side alone, whatever stands on the right.
+left-alone : (a b other : Bool) → (T b → ⊥) → T (a || b) → T (a || other)
+left-alone true b other f h = tt
+left-alone false b other f h = absurd (f h)
 
 pub updated-kept : (v : ℕ) (m : Module) → Valid m → Valid (updated v m)
 updated-kept v m h =
     let line = m .line in
     let runs : Bool = m .config .sspen && isTenBit (m .config) in
+    let high : Bool = m .live .s && sclHigh (line .remembered) in
     record {
       parts = by-update (λ ph. T (partsFit ph)) (λ next p. next-fits next true .0) (m .phase) (h .parts);
       condition = h .condition;
       mode = h .mode;
       off =
           by-update (λ ph. T (offFits (m .config .sspen) ph (line .mark)))
-          (λ next. on-alone (m .config .sspen) (isQuiet (nextPhase next) && not (line .mark))) (m .phase) (h .off);
+          (λ next. left-alone (m .config .sspen) false (isQuiet (nextPhase next) && not (line .mark)) (λ t. t)) (m .phase) (h .off);
       mark =
           by-update (λ ph. T (markFits (line .mark) (m .live .s) (line .remembered) ph))
-          (λ next. no-mark (line .mark) (m .live .s) (sclHigh (line .remembered)) (addressBegins (nextPhase next))) (m .phase) (h .mark);
+          (λ next. left-alone (not (line .mark)) (high && false) (high && addressBegins (nextPhase next)) (and-right high false)) (m .phase) (h .mark);
       eight =
           by-update (λ ph. T (eightFit ph (line .remembered)))
           (λ next p. or-left (not (eightBits (nextPhase next))) (sclHigh (line .remembered)) (next-fits next true .1)) (m .phase) (h .eight);
       hold = by-update (λ ph. T (holdFits ph (m .live .ckp))) (λ next p. next-fits next (m .live .ckp) .2) (m .phase) (h .hold);
       ten =
           by-update (λ ph. T (tenFit runs (m .live .full) ph))
-          (λ next. ten-alone runs (m .live .full) (not (m .live .full || ofTenBits (nextPhase next)))) (m .phase) (h .ten);
+          (λ next. left-alone runs (not (m .live .full || true)) (not (m .live .full || ofTenBits (nextPhase next))) (λ t. true≢false (neither (m .live .full) true t .1))) (m .phase) (h .ten);
     }
 
 -- Where SSPEN does not go from 1 to 0, an off module was off, quiet and unmarked before.
@@ -292,7 +268,7 @@ con1-kept true ckp v m e k mode stays h =
 con1-kept false true v m e k mode stays h =
     let r = released-same (m .config .ackdt) (m .live .buf) (m .phase) in
     record {
-      parts = released-parts (m .config .ackdt) (m .live .buf) (m .phase) (h .parts);
+      parts = r .5 (h .parts);
       condition = h .condition;
       mode = mode;
       off = rw (r .0) (off-stays (m .config .sspen) (bit 5 v) (isQuiet (m .phase) && not (m .line .mark)) e (h .off));
@@ -326,8 +302,8 @@ write-kept Con3 v m a h = same m (written Con3 v m) refl refl refl refl refl ref
 write-kept Add v m a h = updated-kept v m h
 write-kept Msk v m a h =
     same m (written Msk v m) refl refl refl refl refl refl refl refl
-    (accepted-mask (m .config .sspen) (modelled (m .config .sspm2) (m .config .sspm1)) (isTenBit (m .config)) (masksNone (m .config .msk)) (masksNone v)
-    (none-holds 0 (writeCauses Msk v m) a .1 .1 .1 .1 .0) (h .mode)) h
+    (accepted-mode (m .config .sspen) (modelled (m .config .sspm2) (m .config .sspm1)) (isTenBit (m .config)) (masksNone v)
+    (mode-stands (m .config .sspen) (modelled (m .config .sspm2) (m .config .sspm1)) (not (isTenBit (m .config)) || masksNone (m .config .msk)) (h .mode)) (none-holds 0 (writeCauses Msk v m) a .1 .1 .1 .1 .0)) h
 write-kept Flag v m a h = same m (written Flag v m) refl refl refl refl refl refl refl refl (h .mode) h
 write-kept Nowhere v m a h = h
 

@@ -1,5 +1,6 @@
 -- Phase and remembered wire come back from their bytes.
-use mathlib.Core.Path.{_≡_, refl, ap, ap₂}
+use Prim.Native.Nat.{ℕ}
+use mathlib.Core.Path.{_≡_, refl, sym, ap, ap₂, _∙_}
 use mathlib.Core.Bool.{true, false}
 use Rattle.wire.specs.declared.Remembered.{Remembered}
 use Rattle.wire.specs.declared.Remembered.the-variants.{Nothing, Wire}
@@ -43,6 +44,10 @@ phase-back HeldForSending = refl
 phase-back (Sending byte place) = refl
 phase-back MasterAcknowledge = refl
 phase-back (HeldForAdd next) = ap HeldForAdd (next-back next)
+
+-- A phase is what its number and its parts name.
+pub by-number : (ph : Phase) {n : ℕ} → phaseNumber ph ≡ n → phaseFrom n (bitsOf ph .count) (bitsOf ph .value) (phaseMark ph) (phaseWhich ph) ≡ ph
+by-number ph e = ap (λ (n : ℕ). phaseFrom n (bitsOf ph .count) (bitsOf ph .value) (phaseMark ph) (phaseWhich ph)) (sym e) ∙ phase-back ph
 
 pub wire-back : (seen : Remembered) → wireFrom (wireByte seen) ≡ seen
 wire-back Nothing = refl

@@ -7,7 +7,7 @@ use native.Mathlib.Nat.{add-zero}
 use native.Mathlib.Omega.{arith}
 use lib.Dec.{leb, ltb}
 use lib.ListN.{length, drop, getD}
-use borrow.Author.Tests.{ltb-true, ltb-false, leb-true, leb-false, lt-ltb, le-ltb}
+use borrow.Author.Tests.{eqb-true, ltb-true, ltb-false, leb-true, leb-false, lt-ltb, le-ltb}
 use Rattle.truth.specs.Tests.{never, by-test, and-first, and-second}
 use Rattle.wire.specs.declared.Bits.{Bits}
 use Rattle.wire.specs.declared.Remembered.{Remembered}
@@ -18,7 +18,8 @@ use Rattle.mssp.specs.declared.Phase.{Phase}
 use Rattle.mssp.specs.declared.Phase.the-variants.{Quiet, Address, Data, HeldBefore, Slot, HeldForSending, Sending, MasterAcknowledge, HeldForAdd}
 use Rattle.mssp.specs.declared.Module.{Module}
 use Rattle.mssp.specs.Module.{moduleOf}
-use Rattle.mssp.specs.Phases.{bitsOf, isSending}
+use Rattle.mssp.specs.Phases.{phaseNumber, bitsOf, isSending}
+use Rattle.phase_image.specs.Laws.{by-number}
 use Rattle.mssp.specs.Drivers.{sclPulled, sdaPulled}
 use Rattle.stretch.specs.declared.Seen.{Seen}
 use Rattle.stretch.specs.declared.Stretch.{Stretch}
@@ -44,15 +45,7 @@ own-bits MasterAcknowledge = refl
 own-bits (HeldForAdd next) = refl
 
 own-byte : (ph : Phase) → isSending ph ≡ true → Sending (bitsOf ph .value) (bitsOf ph .count) ≡ ph
-own-byte Quiet s = never s
-own-byte (Address bits low) s = never s
-own-byte (Data bits held) s = never s
-own-byte (HeldBefore refused which) s = never s
-own-byte (Slot slot which) s = never s
-own-byte HeldForSending s = never s
-own-byte (Sending byte place) s = refl
-own-byte MasterAcknowledge s = never s
-own-byte (HeldForAdd next) s = never s
+own-byte ph s = by-number ph (eqb-true (phaseNumber ph) 6 s)
 
 -- ---- the stretches of an enabled module that has seen a wire
 module _ (c : Config) (enabled : c .sspen ≡ true) (l : Live) where
