@@ -5,5 +5,4 @@ pub mod DemandOne
 pub mod DemandThree
 pub mod HandlerIsFirmware
 pub mod ModeStays
-pub mod WhichAddress
-pub mod TenBits
+pub mod Addresses

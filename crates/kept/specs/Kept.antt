@@ -1,10 +1,10 @@
 -- A state stays a state: after set-up, and after every sample, read and accepted write.
 use Prim.Native.Nat.{ℕ, _%_}
-use mathlib.Core.Path.{_≡_, refl, sym, ap, _∙_}
+use mathlib.Core.Path.{_≡_, refl, sym, ap, subst, _∙_}
 use mathlib.Core.Bool.{Bool, true, false, true≢false, _||_, _&&_, not}
 use lib.Dec.{T, eqb, eqb→eq}
 use borrow.Author.Tests.{eqb-true}
-use Rattle.truth.specs.Tests.{and-both, and-left, and-right, or-left, or-right, neither, by-choice, never}
+use Rattle.truth.specs.Tests.{and-both, and-left, and-right, or-left, or-right, neither, by-choice}
 use Rattle.wire.specs.Byte.{bit}
 use Rattle.wire.specs.Wire.{edgeOf, onWire, sclHigh}
 use Rattle.refusals.specs.Numbers.{accepted}
@@ -51,13 +51,8 @@ unmarked-fits true s b h = absurd h
 unmarked-fits false s b h = tt
 
 -- Whether a ten-bit mode runs, of a module that is enabled.
-runs-in : (on ten x : Bool) → on ≡ true → T (ten || x) → T (on && ten || x)
-runs-in true ten x e h = h
-runs-in false ten x e h = never e
-
-runs-out : (on ten x : Bool) → on ≡ true → T (on && ten || x) → T (ten || x)
-runs-out true ten x e h = h
-runs-out false ten x e h = never e
+abbrev Runs : Bool → Bool → Bool → Type 0
+Runs ten x on = T (on && ten || x)
 
 pub seen-kept : (on : Bool) (m : Module) (scl sda : Bool) → m .config .sspen ≡ on → Valid m → Valid (seenIf on m scl sda)
 seen-kept true m scl sda e v =
@@ -71,7 +66,7 @@ seen-kept true m scl sda e v =
       mark = mark-kept (m .config) (m .live) (m .phase) (m .line .mark) (m .line .remembered) scl sda (v .mark);
       eight = eight-kept (m .config) (m .live) (m .phase) (m .line .mark) (m .line .remembered) scl sda (v .parts) (v .hold) (v .eight);
       hold = n .hold;
-      ten = runs-in (m .config .sspen) _ _ e (ten-kept (m .config) (m .live) (m .phase) (edgeOf (m .line) scl sda) (runs-out (m .config .sspen) _ _ e (v .ten)) (n .alone));
+      ten = subst (Runs _ _) (sym e) (ten-kept (m .config) (m .live) (m .phase) (edgeOf (m .line) scl sda) (subst (Runs _ _) e (v .ten)) (n .alone));
     }
 seen-kept false m scl sda e v =
     let o : T (isQuiet (m .phase) && not (m .line .mark)) = rw e at (v .off) in
@@ -166,16 +161,7 @@ released-same ackdt buf (HeldForAdd next) = (refl, refl, refl, refl, tt, λ h. h
 pub released-kept : (m : Module) → Valid m → Valid (released m)
 released-kept m v =
     let r = released-same (m .config .ackdt) (m .live .buf) (m .phase) in
-    record {
-      parts = r .5 (v .parts);
-      condition = v .condition;
-      mode = v .mode;
-      off = rw (r .0) (v .off);
-      mark = rw (r .1) (v .mark);
-      eight = rw (r .2) (v .eight);
-      hold = r .4;
-      ten = rw (r .3) (v .ten);
-    }
+    record { parts = r .5 (v .parts); condition = v .condition; mode = v .mode; off = rw (r .0) (v .off); mark = rw (r .1) (v .mark); eight = rw (r .2) (v .eight); hold = r .4; ten = rw (r .3) (v .ten) }
 
 -- ADD written ends the hold for it, and leaves every other phase as it is.
 by-update :
@@ -255,16 +241,8 @@ pub con1-kept :
     → m .config .sspen && bit 5 v && not (eqb (v % 16) (sspmOf (m .config))) ≡ false
     → Valid m → Valid (con1Then off ckp (con1Stored v m))
 con1-kept true ckp v m e k mode stays h =
-    record {
-      parts = tt;
-      condition = tt;
-      mode = mode;
-      off = or-right (bit 5 v) true tt;
-      mark = tt;
-      eight = tt;
-      hold = tt;
-      ten = or-right (bit 5 v && tenBits (bit 2 v) (bit 1 v) (bit 0 v)) true tt;
-    }
+    let ten = or-right (bit 5 v && tenBits (bit 2 v) (bit 1 v) (bit 0 v)) true tt in
+    record { parts = tt; condition = tt; mode = mode; off = or-right (bit 5 v) true tt; mark = tt; eight = tt; hold = tt; ten = ten }
 con1-kept false true v m e k mode stays h =
     let r = released-same (m .config .ackdt) (m .live .buf) (m .phase) in
     record {

@@ -7,7 +7,4 @@ hold-ends : tie.Need-returns
 hold-ends c = simp (c .before .before .before .before .update-phase .ensures)
 
 pub update-spec : {M : Type 1} → statement M
-update-spec =
-    tie.close
-    (tie.spec
-    (λ c κs. search needs) hold-ends)
+update-spec = tie.close (tie.spec (λ c κs. search needs) hold-ends)

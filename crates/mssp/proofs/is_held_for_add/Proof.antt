@@ -7,7 +7,4 @@ held-for-add : tie.Need-returns
 held-for-add c = simp (c .phase-number .ensures)
 
 pub is-held-for-add-spec : {M : Type 1} → statement M
-is-held-for-add-spec =
-    tie.close
-    (tie.spec
-    (λ c κs. search needs) held-for-add)
+is-held-for-add-spec = tie.close (tie.spec (λ c κs. search needs) held-for-add)

@@ -10,7 +10,4 @@ no-match-comes-in : tie.Need-returns-2
 no-match-comes-in c = simp (c .if1 .left)
 
 pub low-byte-spec : {M : Type 1} → statement M
-low-byte-spec =
-    tie.close
-    (tie.spec
-    (λ c κs. search needs) match-keeps-rw no-match-comes-in)
+low-byte-spec = tie.close (tie.spec (λ c κs. search needs) match-keeps-rw no-match-comes-in)

@@ -7,7 +7,4 @@ add-or-which : tie.Need-returns
 add-or-which c = simp (c .phase-which .ensures, c .before .is-held-for-add .ensures)
 
 pub is-of-ten-bits-spec : {M : Type 1} → statement M
-is-of-ten-bits-spec =
-    tie.close
-    (tie.spec
-    (λ c κs. search needs) (λ c κs. search needs) add-or-which)
+is-of-ten-bits-spec = tie.close (tie.spec (λ c κs. search needs) (λ c κs. search needs) add-or-which)
