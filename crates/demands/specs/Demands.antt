@@ -88,7 +88,7 @@ DemandTwo =
 -- ---- DEMAND 3: for every ADD, every 48 bytes, every buffer, every window of 1 to 256 bytes inside it and every list of items 0 to
 -- 4: set up and fed through the door, in one run, in several or call by call, all is done; the bytes are the image of the joint
 -- run's state, the window holds its bytes, and it agrees with the plain device; the bytes outside the window are as they were.
--- It holds of every list of items, so after each item of a list.
+-- It holds of every list of items, so after each item of a list. The setup chooses seven bits: the handler cannot run ten (02, 9).
 abbrev pub DemandThree : Type 0
 DemandThree =
     (add start n : ℕ) (h : Host) (calls : List DoorCall) (items : List ℕ) → length (h .state) ≡ imageLength → 1 ≤ n → n ≤ longestWindow
