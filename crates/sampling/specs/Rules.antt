@@ -29,13 +29,13 @@ infixl 20 _at_
 abbrev pub _at_ : Live → Phase → Moved
 _at_ l ph = record { live = l; phase = ph }
 
--- Start: S, and neither P, D/A, R/W nor ACKTIM; SSPIF where SCIE or SSPM 1110 asks. A byte being sent is dropped with BF.
+-- Start: S, and neither P, D/A, R/W nor ACKTIM; SSPIF where SCIE or SSPM 1110, 1111 asks. A byte being sent is dropped with BF.
 abbrev pub started : Config → Live → Bool → Live
 started c l sending =
     setS true (setP false (setDA false (setRW false (setACKTIM false
     (setBF (l .bf && not sending) (setSSPIF (l .sspif || c .scie || interrupting c) l))))))
 
--- Stop: P, and neither S, R/W nor ACKTIM; SSPIF where PCIE or SSPM 1110 asks. A byte being sent is dropped with BF, and the full
+-- Stop: P, and neither S, R/W nor ACKTIM; SSPIF where PCIE or SSPM 1110, 1111 asks. A byte being sent is dropped with BF, and the full
 -- match ends. A Start does not end it: it may be the Restart of a read.
 abbrev pub stopped : Config → Live → Bool → Live
 stopped c l sending =
