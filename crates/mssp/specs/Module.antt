@@ -1,5 +1,5 @@
 -- The module's state (01, "Register numbers" and "From levels to bytes"): its makers, one setter for each bit that a rule
--- changes, the fresh state and the set-up one. A field more is a field more here, and in the way back from an image (`module_image`).
+-- changes, the fresh state and the set-up one. Where else a field more has to be named, docs/ARCHITECTURE.md lists.
 use Prim.Native.Nat.{ℕ}
 use mathlib.Core.Bool.{Bool, true, false, _&&_}
 use Rattle.wire.specs.declared.Line.{Line}

@@ -25,7 +25,7 @@ fn move_on(m: Module, ahead: Stretch) -> Module
 }
 
 // Over the stretch ahead, where there is one.
-fn pass_stretch(m: Module, items: &[u8]) -> Fed
+pub fn pass_stretch(m: Module, items: &[u8]) -> Fed
     ensures { λ r. ⌜ r ≡ stretchPassed m (now (items .entry)) ⌝ }
 {
     let ahead = stretch::ahead(m, items);

@@ -1,29 +1,30 @@
 -- Every item of a stretch is a sample that leaves all flags as they are: what the stretch says of phase and line is what
 -- the rules say.
 use Prim.Native.Nat.{ℕ, _+_, _%_, _<_}
-use mathlib.Core.Path.{_≡_, refl, sym, ap, _∙_}
+use mathlib.Core.Path.{_≡_, refl, sym, ap, ap₂, _∙_}
 use mathlib.Core.Bool.{Bool, true, false, cond, _||_}
 use native.Mathlib.Omega.{arith}
 use lib.Dec.{ltb, leb}
 use borrow.Author.Tests.{lt-ltb, leb-false, ltb-false}
 use Rattle.truth.specs.Tests.{never}
 use Rattle.wire.specs.declared.Bits.{Bits}
-use Rattle.wire.specs.declared.Edge.the-variants.{Rise, Fall}
+use Rattle.wire.specs.declared.Edge.{Edge}
+use Rattle.wire.specs.declared.Edge.the-variants.{Still, Start, Stop, Rise, Fall}
 use Rattle.wire.specs.Byte.{pushed, whole}
-use Rattle.wire.specs.Wire.{sclOf, sdaOf, onWire}
+use Rattle.wire.specs.Wire.{edgeOf, sclOf, sdaOf, onWire}
 use Rattle.mssp.specs.declared.Config.{Config}
 use Rattle.mssp.specs.declared.Live.{Live}
 use Rattle.mssp.specs.declared.Phase.{Phase}
 use Rattle.mssp.specs.declared.Phase.the-variants.{Quiet, Address, Data, HeldBefore, Slot, HeldForSending, Sending, MasterAcknowledge, HeldForAdd}
 use Rattle.mssp.specs.declared.Module.{Module}
 use Rattle.mssp.specs.Module.{moduleOf, setACKTIM}
-use Rattle.mssp.specs.Phases.{isSending}
+use Rattle.mssp.specs.Phases.{bitsOf, isSending}
 use Rattle.mssp.specs.Drivers.{sclPulled, sdaPulled}
 use Rattle.sampling.specs.declared.Moved.{Moved}
 use Rattle.sampling.specs.Rules.{_at_, addressFallIf, dataFallIf, bitSentIf, edgeStep, seenIf, sampled}
 use Rattle.stretch.specs.declared.Seen.{Seen}
-use Rattle.stretch.specs.Seen.{lineOf, seenOn, ends, placeSeen}
-use Rattle.stretch.specs.Stretch.{takesBits, withBits, riseRule, fallRule, takingStops, takingGoes, sendingStops, sendingGoes, restingStops, restingGoes}
+use Rattle.stretch.specs.Seen.{lineOf, seenOn, endedBy, ends, takenAt, placeSeen}
+use Rattle.stretch.specs.Stretch.{takesBits, withBits, riseRule, fallRule, takingStops, takingGoes, sendingStops, sendingGoes, restingStops, restingGoes, phaseOver}
 
 -- A module whose line is a wire that was seen.
 abbrev pub moduleSeen : Config → Live → Phase → Seen → Module
@@ -98,10 +99,22 @@ rested-phase ph true false = refl
 rested-phase ph false true = refl
 rested-phase ph false false = refl
 
--- A stretch goes over an item: it is a level, and the sample leaves the module where the stretch does.
+-- What does not end a stretch is no Start and no Stop.
+calm-by : (rise fall : Bool) (e : Edge) → endedBy rise fall e ≡ false → endedBy false false e ≡ false
+calm-by rise fall Still h = refl
+calm-by rise fall Start h = h
+calm-by rise fall Stop h = h
+calm-by rise fall (Rise sda) h = refl
+calm-by rise fall Fall h = refl
+
+-- A stretch goes over an item: it is a level, neither Start nor Stop, and the sample leaves the module where the stretch does,
+-- which is where a single level on the wire leads.
 pub record Sampled (c : Config) (l : Live) (ph : Phase) (w : Seen) (item : ℕ) (ph′ : Phase) (w′ : Seen) : Type 0 where
   pub level : item < 4
+  pub calm : ends w (onWire (sclPulled ph) (sclOf item)) (onWire (sdaPulled ph) (sdaOf item)) false false ≡ false
   pub leaves : sampled (moduleSeen c l ph w) (sclOf item) (sdaOf item) ≡ moduleSeen c l ph′ w′
+  pub phase : ph′ ≡ phaseOver ph w (onWire (sclPulled ph) (sclOf item)) (onWire (sdaPulled ph) (sdaOf item))
+  pub wire : w′ ≡ seenOn w (onWire (sclPulled ph) (sclOf item)) (onWire (sdaPulled ph) (sdaOf item))
 
 module _ (c : Config) (enabled : c .sspen ≡ true) (l : Live) where
   -- The bits of an address and of data move alike.
@@ -127,6 +140,9 @@ module _ (c : Config) (enabled : c .sspen ≡ true) (l : Live) where
       let k = level-goes item h in
       record {
         level = k .0;
+        calm = calm-by false (leb 7 place) (edgeOf (lineOf w) (sclOf item) sda) (k .1);
+        phase = refl;
+        wire = refl;
         leaves =
             ap (λ (t : Bool). seenIf t (moduleSeen c l (Sending byte place) w) (sclOf item) sda) enabled
             ∙ goes c l (Sending byte place) false (leb 7 place) (λ (x : Bool). Sending byte place) (Sending byte (place + 1)) (λ e x. refl)
@@ -143,6 +159,9 @@ module _ (c : Config) (enabled : c .sspen ≡ true) (l : Live) where
       let k = level-goes item h in
       record {
         level = k .0;
+        calm = calm-by false (whole (p .0)) (edgeOf (lineOf (p .1)) (sclOf item) (sdaOf item)) (k .1);
+        phase = refl;
+        wire = refl;
         leaves = taken-goes (λ (b : Bits). Address b low) p item (λ sda. refl) (λ e. ap (λ (x : Bool). addressFallIf x c l (p .0) low) e) (k .1);
       }
   bits-go (Data bits true) t p item h = never t
@@ -150,6 +169,9 @@ module _ (c : Config) (enabled : c .sspen ≡ true) (l : Live) where
       let k = level-goes item h in
       record {
         level = k .0;
+        calm = calm-by false (whole (p .0)) (edgeOf (lineOf (p .1)) (sclOf item) (sdaOf item)) (k .1);
+        phase = refl;
+        wire = refl;
         leaves = taken-goes (λ (b : Bits). Data b false) p item (λ sda. refl) (λ e. ap (λ (x : Bool). dataFallIf x c l (p .0) false) e) (k .1);
       }
   bits-go (HeldBefore refused which) t p item h = never t
@@ -195,6 +217,10 @@ module _ (c : Config) (enabled : c .sspen ≡ true) (l : Live) where
       let k = level-goes item h in
       record {
         level = k .0;
+        calm = calm-by (riseRule ph (l .acktim)) (fallRule ph) (edgeOf (lineOf w) scl sda) (k .1);
+        phase =
+            sym (ap₂ (λ (a b : Bool). cond a (withBits ph (takenAt (bitsOf ph) w scl sda)) (cond b (Sending (bitsOf ph .value) (placeSeen (bitsOf ph .count) w scl)) ph)) t s);
+        wire = refl;
         leaves =
             ap (λ (t : Bool). seenIf t (moduleSeen c l ph w) scl sda) enabled
             ∙ goes c l ph (riseRule ph (l .acktim)) (fallRule ph) (λ (x : Bool). ph) ph (rises-by ph t) (falls-by ph t s) (w .mark) (w .scl) (w .sda) scl sda (k .1)

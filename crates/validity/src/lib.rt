@@ -47,15 +47,6 @@ fn address_begins(phase: Phase) -> bool
     (mssp::phase_number(phase) == mssp::ADDRESS) & (bits.count == 0)
 }
 
-fn scl_high(remembered: Remembered) -> bool
-    ensures { λ r. ⌜ r ≡ sclHigh remembered ⌝ }
-{
-    match remembered {
-        Remembered::Nothing => false,
-        Remembered::Wire(scl, _) => scl,
-    }
-}
-
 // The hold for ADD, and a phase of a high or a low byte.
 fn is_of_ten_bits(phase: Phase) -> bool
     ensures { λ r. ⌜ r ≡ ofTenBits phase ⌝ }
@@ -80,7 +71,7 @@ pub fn is_valid(
 {
     let mark = line.mark;
     let remembered = line.remembered;
-    let high = scl_high(remembered);
+    let high = wire::scl_high(remembered);
     let parts = parts_fit(phase);
     let quiet = is_quiet(phase);
     let begins = address_begins(phase);

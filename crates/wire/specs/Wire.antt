@@ -46,6 +46,13 @@ isStart Stop = false
 isStart (Rise sda) = false
 isStart Fall = false
 
+abbrev pub isStop : Edge → Bool
+isStop Still = false
+isStop Start = false
+isStop Stop = true
+isStop (Rise sda) = false
+isStop Fall = false
+
 -- The level is remembered; a Start leaves the mark, which a low SCL ends.
 abbrev pub lineAfter : Bool → Edge → Bool → Bool → Line
 lineAfter mark e scl sda = record { remembered = Wire scl sda; mark = scl && (mark || isStart e) }

@@ -1,6 +1,6 @@
 // The wire: what is remembered of it, which edge a new level makes, and the bits of a byte so far.
 ghost use mathlib.Core.Path.{_≡_};
-ghost use Rattle.wire.specs.Wire.{condition, edgeOf, lineAfter, isStart, sclHigh};
+ghost use Rattle.wire.specs.Wire.{condition, edgeOf, lineAfter, isStart, isStop, sclHigh};
 ghost use Rattle.wire.specs.Byte.{none, pushed, whole, zeroAt};
 
 // The wire as the last sample left it: SCL, then SDA.
@@ -63,6 +63,15 @@ pub fn edge_of(line: Line, scl: bool, sda: bool) -> Edge
     }
 }
 
+pub fn scl_high(remembered: Remembered) -> bool
+    ensures { λ r. ⌜ r ≡ sclHigh remembered ⌝ }
+{
+    match remembered {
+        Remembered::Nothing => false,
+        Remembered::Wire(scl, _) => scl,
+    }
+}
+
 pub fn is_start(e: Edge) -> bool
     ensures { λ r. ⌜ r ≡ isStart e ⌝ }
 {
@@ -70,6 +79,18 @@ pub fn is_start(e: Edge) -> bool
         Edge::Still => false,
         Edge::Start => true,
         Edge::Stop => false,
+        Edge::Rise(_) => false,
+        Edge::Fall => false,
+    }
+}
+
+pub fn is_stop(e: Edge) -> bool
+    ensures { λ r. ⌜ r ≡ isStop e ⌝ }
+{
+    match e {
+        Edge::Still => false,
+        Edge::Start => false,
+        Edge::Stop => true,
         Edge::Rise(_) => false,
         Edge::Fall => false,
     }
