@@ -5,7 +5,7 @@ use mssp::Config;
 use mssp::Live;
 
 // Eight bits as a byte, bit 7 first.
-fn pack(b7: bool, b6: bool, b5: bool, b4: bool, b3: bool, b2: bool, b1: bool, b0: bool) -> u8
+pub fn pack(b7: bool, b6: bool, b5: bool, b4: bool, b3: bool, b2: bool, b1: bool, b0: bool) -> u8
     ensures { λ r. ⌜ r ≡ byteOf b7 b6 b5 b4 b3 b2 b1 b0 ⌝ }
 {
     (b7 as u8) * 128
