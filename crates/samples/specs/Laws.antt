@@ -23,9 +23,9 @@ use Rattle.phase_image.specs.Laws.{by-number}
 use Rattle.mssp.specs.Drivers.{sclPulled, sdaPulled}
 use Rattle.stretch.specs.declared.Seen.{Seen}
 use Rattle.stretch.specs.declared.Stretch.{Stretch}
-use Rattle.stretch.specs.Walk.{walked}
+use Rattle.stretch.specs.Walk.{walked, steps}
 use Rattle.stretch.specs.Walking.{Onward, walk-onward, Walking, walk-on, walk-by, walk-stops, walk-out}
-use Rattle.stretch.specs.Stretch.{takesBits, withBits, riseRule, fallRule, stretchBy, takingStops, takingGoes, sendingStops, sendingGoes, restingStops, restingGoes, phaseStretch, stretchFrom, stretchOf}
+use Rattle.stretch.specs.Stretch.{takesBits, withBits, riseRule, fallRule, stretchBy, takingStops, takingGoes, sendingStops, sendingGoes, restingStops, restingGoes, stretchFrom, stretchOf}
 use Rattle.stretch.specs.Theorems.{stretch-within}
 use Rattle.stretch.specs.Sampled.{moduleSeen, Sampled, bits-go, sending-goes, rest-goes}
 use Rattle.samples.specs.Loop.{lentFrom, lent-is}
@@ -47,55 +47,76 @@ own-bits (HeldForAdd next) = refl
 own-byte : (ph : Phase) → isSending ph ≡ true → Sending (bitsOf ph .value) (bitsOf ph .count) ≡ ph
 own-byte ph s = by-number ph (eqb-true (phaseNumber ph) 6 s)
 
--- ---- the stretches of an enabled module that has seen a wire
-module _ (c : Config) (enabled : c .sspen ≡ true) (l : Live) where
-  goes-so :
-      {ph ph′ : Phase} {w w′ : Seen} (item : ℕ) → Sampled c l ph w item ph′ w′
-      → (noSample (moduleSeen c l ph w) item ≡ false) × (sampledAt (moduleSeen c l ph w) item ≡ moduleSeen c l ph′ w′)
-  goes-so item k = let h = k .level in (le-ltb 3 item (omega arith), k .leaves)
+-- ---- a stretch is a walk, and what holds along each walk of samples holds along the stretch ahead
+-- It holds from a module over none of the items, and along each walk whose items are samples that leave what the walk does.
+abbrev pub OnEachWalk : (Module → List ℕ → Module → ℕ → Type 0) → Type 1
+OnEachWalk Along =
+    (P : Type 0) (stops : P → ℕ → Bool) (goes : P → ℕ → P) (c : Config) → c .sspen ≡ true → (l : Live) (ph : P → Phase) (wire : P → Seen)
+    → ((p : P) (item : ℕ) → stops p item ≡ false → Sampled c l (ph p) (wire p) item (ph (goes p item)) (wire (goes p item)))
+    → (p : P) (items : List ℕ)
+    → Along (moduleSeen c l (ph p) (wire p)) items (moduleSeen c l (ph (walked stops goes p items)) (wire (walked stops goes p items))) (steps stops goes p items)
 
-  abbrev Feeds : Phase → Seen → List ℕ → Stretch → Type 0
-  Feeds ph w items r =
-      Onward noSample sampledAt (moduleSeen c l ph w) items (moduleSeen c l (r .phase) (r .wire)) (r .length)
+module _ (Along : Module → List ℕ → Module → ℕ → Type 0) (nowhere : (m : Module) (items : List ℕ) → Along m items m 0) (walks : OnEachWalk Along) where
+  module _ (c : Config) (enabled : c .sspen ≡ true) (l : Live) where
+    abbrev AlongPhase : Phase → Seen → List ℕ → Stretch → Type 0
+    AlongPhase ph w items r = Along (moduleSeen c l ph w) items (moduleSeen c l (r .phase) (r .wire)) (r .length)
 
-  -- By whether the phase takes bits, else by whether it sends.
-  feeds-by :
-      (takes sends : Bool) (ph : Phase) (w : Seen) (items : List ℕ) → takesBits ph ≡ takes → isSending ph ≡ sends
-      → Feeds ph w items (stretchBy takes sends ph (l .acktim) w items)
-  feeds-by true sends ph w items t s =
-      subst (λ (x : Phase). Feeds x w items (stretchBy true sends ph (l .acktim) w items)) (own-bits ph)
-      (walk-onward takingStops takingGoes noSample sampledAt (λ (p : Bits × Seen). moduleSeen c l (withBits ph (p .0)) (p .1))
-      (λ p item e. goes-so item (bits-go c enabled l ph t p item e)) (bitsOf ph, w) items)
-  feeds-by false true ph w items t s =
-      let byte : ℕ = bitsOf ph .value in
-      subst (λ (x : Phase). Feeds x w items (stretchBy false true ph (l .acktim) w items)) (own-byte ph s)
-      (walk-onward (sendingStops byte) (sendingGoes byte) noSample sampledAt (λ (p : ℕ × Seen). moduleSeen c l (Sending byte (p .0)) (p .1))
-      (λ p item e. goes-so item (sending-goes c enabled l byte p item e)) (bitsOf ph .count, w) items)
-  feeds-by false false ph w items t s =
-      walk-onward (restingStops (sclPulled ph) (sdaPulled ph) (riseRule ph (l .acktim)) (fallRule ph))
-      (restingGoes (sclPulled ph) (sdaPulled ph)) noSample sampledAt (λ (x : Seen). moduleSeen c l ph x)
-      (λ x item e. goes-so item (rest-goes c enabled l ph t s x item e)) w items
+    -- By whether the phase takes bits, else by whether it sends.
+    along-by :
+        (takes sends : Bool) (ph : Phase) (w : Seen) (items : List ℕ) → takesBits ph ≡ takes → isSending ph ≡ sends
+        → AlongPhase ph w items (stretchBy takes sends ph (l .acktim) w items)
+    along-by true sends ph w items t s =
+        subst (λ (x : Phase). AlongPhase x w items (stretchBy true sends ph (l .acktim) w items)) (own-bits ph)
+        (walks (Bits × Seen) takingStops takingGoes c enabled l (λ (p : Bits × Seen). withBits ph (p .0)) (λ (p : Bits × Seen). p .1) (λ p item e. bits-go c enabled l ph t p item e) (bitsOf ph, w) items)
+    along-by false true ph w items t s =
+        let byte : ℕ = bitsOf ph .value in
+        subst (λ (x : Phase). AlongPhase x w items (stretchBy false true ph (l .acktim) w items)) (own-byte ph s)
+        (walks (ℕ × Seen) (sendingStops byte) (sendingGoes byte) c enabled l (λ (p : ℕ × Seen). Sending byte (p .0)) (λ (p : ℕ × Seen). p .1) (λ p item e. sending-goes c enabled l byte p item e) (bitsOf ph .count, w) items)
+    along-by false false ph w items t s =
+        walks Seen (restingStops (sclPulled ph) (sdaPulled ph) (riseRule ph (l .acktim)) (fallRule ph)) (restingGoes (sclPulled ph) (sdaPulled ph))
+        c enabled l (λ (x : Seen). ph) (λ (x : Seen). x) (λ x item e. rest-goes c enabled l ph t s x item e) w items
 
-  phase-feeds : (ph : Phase) (w : Seen) (items : List ℕ) → Feeds ph w items (phaseStretch ph (l .acktim) w items)
-  phase-feeds ph w items = feeds-by (takesBits ph) (isSending ph) ph w items refl refl
+  module _ (m : Module) (items : List ℕ) where
+    abbrev from : Remembered → Module
+    from rem = moduleOf (m .config) (m .live) (m .phase) (record { remembered = rem; mark = m .line .mark })
 
--- ---- the stretch ahead
-module _ (m : Module) (items : List ℕ) where
-  abbrev from : Remembered → Module
-  from rem = moduleOf (m .config) (m .live) (m .phase) (record { remembered = rem; mark = m .line .mark })
+    along-from :
+        (on : Bool) → m .config .sspen ≡ on → (rem : Remembered)
+        → let r : Stretch = stretchFrom on rem (m .line .mark) (m .phase) (m .live .acktim) items in
+        0 < r .length → Along (from rem) items (movedOn m r) (r .length)
+    along-from on e Nothing h = absurd (omega arith)
+    along-from false e (Wire scl sda) h = absurd (omega arith)
+    along-from true e (Wire scl sda) h =
+        along-by (m .config) e (m .live) (takesBits (m .phase)) (isSending (m .phase)) (m .phase) (record { scl = scl; sda = sda; mark = m .line .mark }) items refl refl
 
-  feeds-from :
-      (on : Bool) → m .config .sspen ≡ on → (rem : Remembered)
-      → let r : Stretch = stretchFrom on rem (m .line .mark) (m .phase) (m .live .acktim) items in
-      0 < r .length → Onward noSample sampledAt (from rem) items (movedOn m r) (r .length)
-  feeds-from on e Nothing h = absurd (omega arith)
-  feeds-from false e (Wire scl sda) h = absurd (omega arith)
-  feeds-from true e (Wire scl sda) h =
-      phase-feeds (m .config) e (m .live) (m .phase) (record { scl = scl; sda = sda; mark = m .line .mark }) items
+    pub ahead-along : let r : Stretch = stretchOf m items in 0 < r .length → Along m items (movedOn m r) (r .length)
+    ahead-along = along-from (m .config .sspen) refl (m .line .remembered)
 
-  ahead-feeds :
-      let r : Stretch = stretchOf m items in 0 < r .length → Onward noSample sampledAt m items (movedOn m r) (r .length)
-  ahead-feeds = feeds-from (m .config .sspen) refl (m .line .remembered)
+    passed-if :
+        (t : Bool) → let ahead : Stretch = stretchOf m items in ltb 0 (ahead .length) ≡ t
+        → let r : Fed = passedIf t m ahead in Along m items (r .mssp) (r .length) × (r .length ≤ length items)
+    passed-if true e = (ahead-along (ltb-true 0 _ e), stretch-within m items)
+    passed-if false e = (nowhere m items, omega arith)
+
+    -- Passed over or not.
+    pub passed-along : let r : Fed = stretchPassed m items in Along m items (r .mssp) (r .length) × (r .length ≤ length items)
+    passed-along = passed-if (ltb 0 (stretchOf m items .length)) refl
+
+-- ---- the samples go on from where a stretch leads
+goes-so :
+    {c : Config} {l : Live} {ph ph′ : Phase} {w w′ : Seen} (item : ℕ) → Sampled c l ph w item ph′ w′
+    → (noSample (moduleSeen c l ph w) item ≡ false) × (sampledAt (moduleSeen c l ph w) item ≡ moduleSeen c l ph′ w′)
+goes-so item k = let h = k .level in (le-ltb 3 item (omega arith), k .leaves)
+
+abbrev Feeds : Module → List ℕ → Module → ℕ → Type 0
+Feeds m items n k = Onward noSample sampledAt m items n k
+
+feeds-nowhere : (m : Module) (items : List ℕ) → Feeds m items m 0
+feeds-nowhere m items = record { place = refl; count = omega arith }
+
+feeds-walks : OnEachWalk Feeds
+feeds-walks P stops goes c enabled l ph wire law =
+    walk-onward stops goes noSample sampledAt (λ (p : P). moduleSeen c l (ph p) (wire p)) (λ p item e. goes-so item (law p item e))
 
 -- ---- a single level
 module _ (m : Module) (level : ℕ) (h : level ≤ 3) where
@@ -112,7 +133,7 @@ module _ (m : Module) (level : ℕ) (h : level ≤ 3) where
   level-passed {r} e l =
       let within : r .length ≤ 1 = subst (λ (x : Stretch). x .length ≤ 1) (sym e) (stretch-within m (level ∷ [])) in
       let once : r .length ≡ 1 = omega arith in
-      let on = subst (λ (x : Stretch). 0 < x .length → Onward noSample sampledAt m (level ∷ []) (movedOn m x) (x .length)) (sym e) (ahead-feeds m (level ∷ [])) l in
+      let on = subst (λ (x : Stretch). 0 < x .length → Onward noSample sampledAt m (level ∷ []) (movedOn m x) (x .length)) (sym e) (ahead-along Feeds feeds-nowhere feeds-walks m (level ∷ [])) l in
       sym (ap (λ (n : ℕ). walked noSample sampledAt (movedOn m r) (drop n (level ∷ []))) once) ∙ sym (on .place) ∙ one-walked
 
 -- The two ways through the code.
@@ -125,13 +146,6 @@ module _ (m : Module) (items : List ℕ) {ahead : Stretch} (is : ahead ≡ stret
 
   pub passed-none : ahead .length ≤ 0 → fedBy m 0 ≡ stretchPassed m items
   passed-none h = as-tested false (le-ltb 0 (ahead .length) h)
-
--- Passed over or not, the samples go on from there.
-passed-if :
-    (t : Bool) (m : Module) (items : List ℕ) → let ahead : Stretch = stretchOf m items in ltb 0 (ahead .length) ≡ t
-    → let r : Fed = passedIf t m ahead in Onward noSample sampledAt m items (r .mssp) (r .length) × (r .length ≤ length items)
-passed-if true m items e = (ahead-feeds m items (ltb-true 0 _ e), stretch-within m items)
-passed-if false m items e = (record { place = refl; count = omega arith }, omega arith)
 
 -- ---- the loop, by what is left of the items
 sample-here : (items : List ℕ) (i : ℕ) → sampleAt items i ≡ true → (i < length items) × (getD items i 0 ≤ 3)
@@ -148,7 +162,7 @@ module _ {items : List ℕ} {m₀ : Module} {i : ℕ} {m : Module} (before : Wal
   stretch-walked {r} is =
       let e : r ≡ stretchPassed m (drop i items) = is ∙ ap (λ (xs : List ℕ). stretchPassed m xs) (lent-is i items) in
       subst (λ (x : Fed). Walking noSample sampledAt items m₀ (i + x .length) (x .mssp)) (sym e)
-      (let k = passed-if (ltb 0 (stretchOf m (drop i items) .length)) m (drop i items) refl in walk-by before (k .0) (k .1) refl)
+      (let k = passed-along Feeds feeds-nowhere feeds-walks m (drop i items) in walk-by before (k .0) (k .1) refl)
 
   -- Where a sample stood and none does any more, the stretch had items.
   pub stretch-moved :

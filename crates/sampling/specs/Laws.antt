@@ -14,7 +14,7 @@ use Rattle.mssp.specs.Drivers.{sclPulled, sdaPulled}
 use Rattle.sampling.specs.Rules.{seenIf, sampled}
 use Rattle.sampling.specs.Still.{isStill}
 
-equal : (a b : Bool) → Bool·beq a b ≡ true → a ≡ b
+pub equal : (a b : Bool) → Bool·beq a b ≡ true → a ≡ b
 equal true true e = refl
 equal true false e = never e
 equal false true e = never e

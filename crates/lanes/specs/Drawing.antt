@@ -1,0 +1,139 @@
+-- The loop of a drawing: over a stretch the painted words are those of its items; every other item is drawn by itself.
+use Prim.Native.Nat.{ℕ, suc, _+_, _-_, _%_, _<_, _≤_}
+use mathlib.Core.Path.{_≡_, refl, sym, ap, ap₂, subst, _∙_}
+use mathlib.Core.Bool.{Bool, true, false, cond, _&&_, _||_, not}
+use mathlib.Core.List.{List, [], _∷_, _++_}
+use native.Mathlib.Omega.{arith}
+use native.Mathlib.Numerals.{add-one}
+use mir.Val.{boolByte}
+use lib.Dec.{eqb, leb}
+use lib.ListN.{length, take, drop, getD, set, length-drop, take-append-drop, drop-of-length-le}
+use lib.Seq.{drop-cons, drop-drop, drop-append-le, take-append-le, take-take, length-take-le}
+use borrow.Author.Tests.{leb-true}
+use Rattle.truth.specs.Tests.{never, or-false}
+use Rattle.items.specs.First.{leading, firstAbove}
+use Rattle.wire.specs.declared.Edge.{Edge}
+use Rattle.wire.specs.declared.Edge.the-variants.{Still, Start, Stop, Rise, Fall}
+use Rattle.wire.specs.Byte.{zeroAt}
+use Rattle.wire.specs.Wire.{sclOf, sdaOf, onWire, edgeOf, isStart, isStop, sclHigh}
+use Rattle.mssp.specs.declared.Config.{Config}
+use Rattle.mssp.specs.declared.Live.{Live}
+use Rattle.mssp.specs.declared.Phase.{Phase}
+use Rattle.mssp.specs.declared.Phase.the-variants.{Quiet, Address, Data, HeldBefore, Slot, HeldForSending, Sending, MasterAcknowledge, HeldForAdd}
+use Rattle.mssp.specs.declared.Module.{Module}
+use Rattle.mssp.specs.Phases.{phaseNumber}
+use Rattle.mssp.specs.Drivers.{sclPulled, sdaPulled}
+use Rattle.register_bytes.specs.Bytes.{statOf}
+use Rattle.sampling.specs.Rules.{sampled}
+use Rattle.stretch.specs.declared.Seen.{Seen}
+use Rattle.stretch.specs.Seen.{lineOf, seenOn, endedBy}
+use Rattle.stretch.specs.Walk.{walked, steps}
+use Rattle.stretch.specs.Stretch.{phaseOver}
+use Rattle.stretch.specs.Sampled.{moduleSeen, Sampled}
+use Rattle.samples.specs.declared.Fed.{Fed}
+use Rattle.samples.specs.Samples.{stretchPassed}
+use Rattle.samples.specs.Loop.{lentFrom, lent-is}
+use Rattle.samples.specs.Laws.{OnEachWalk, passed-along}
+use Rattle.firmware.specs.declared.Handler.{Handler}
+use Rattle.firmware.specs.declared.State.{State}
+use Rattle.firmware.specs.Handler.{Served, served, stateOf}
+use Rattle.firmware.specs.Window.{splice}
+use Rattle.steps.specs.declared.Item.the-variants.{Sample}
+use Rattle.steps.specs.Step.{after}
+use Rattle.words.specs.Words.{isCalled, metIf, itemTaken, edgeAt, inConflict, eventsOf, linesBy, linesOf, flagsOf, standingBy, standingOf, mostStanding, wordBy, wordOf, wordAt, storing, DrawnItem, drawn, drawnItem}
+use Rattle.lanes.specs.declared.Brush.{Brush}
+use Rattle.lanes.specs.Paint.{brushIn, brushStep, brushOn, inkOf, painted}
+use Rattle.lanes.specs.Lanes.{allTaken, allWords, laned, lanedOf, freeOf}
+use Rattle.lanes.specs.Writing.{Written, one-written, part-written, all-written}
+
+-- ---- what a level that ends no stretch leaves of a phase: number, hold and brush
+sent-on :
+    (byte place : ℕ) (w : Seen) (before scl : Bool) → w .scl ≡ before
+    → brushIn (Sending byte (cond before (cond scl place (place % 8 + 1)) place)) scl ≡ brushStep (brushIn (Sending byte place) before) scl
+sent-on byte place w true true e = refl
+sent-on byte place w true false e =
+    let on : ℕ = place % 8 + 1 in
+    ap (λ (t : Bool). record { sends = true; byte = byte; place = on; pulls = t; scl = false }) (sym (or-false (zeroAt byte on)))
+sent-on byte place w false true e = refl
+sent-on byte place w false false e = refl
+
+abbrev Alike : Phase → Seen → Bool → Phase → Type 0
+Alike ph w scl next =
+    (phaseNumber next ≡ phaseNumber ph) × (sclPulled next ≡ sclPulled ph) × (brushIn next scl ≡ brushStep (brushIn ph (w .scl)) scl)
+
+phase-alike : (ph : Phase) (w : Seen) (scl sda : Bool) → Alike ph w scl (phaseOver ph w scl sda)
+phase-alike Quiet w scl sda = (refl, refl, refl)
+phase-alike (Address bits low) w scl sda = (refl, refl, refl)
+phase-alike (Data bits true) w scl sda = (refl, refl, refl)
+phase-alike (Data bits false) w scl sda = (refl, refl, refl)
+phase-alike (HeldBefore refused which) w scl sda = (refl, refl, refl)
+phase-alike (Slot slot which) w scl sda = (refl, refl, refl)
+phase-alike HeldForSending w scl sda = (refl, refl, refl)
+phase-alike (Sending byte place) w scl sda = (refl, refl, sent-on byte place w (w .scl) scl refl)
+phase-alike MasterAcknowledge w scl sda = (refl, refl, refl)
+phase-alike (HeldForAdd next) w scl sda = (refl, refl, refl)
+
+-- ---- one item of a stretch at which the handler is not called
+calm-events : (e : Edge) (conflict : Bool) → endedBy false false e ≡ false → eventsOf false false e conflict ≡ eventsOf false false Still conflict
+calm-events Still conflict h = refl
+calm-events Start conflict h = never (sym h)
+calm-events Stop conflict h = never (sym h)
+calm-events (Rise sda) conflict h = refl
+calm-events Fall conflict h = refl
+
+as-recorded : (pulled level : Bool) → pulled && level ≡ false → onWire pulled level ≡ level
+as-recorded true true h = never (sym h)
+as-recorded true false h = refl
+as-recorded false level h = refl
+
+abbrev brushOf : Module → Brush
+brushOf m = brushIn (m .phase) (sclHigh (m .line .remembered))
+
+module _ (h : Handler) (bytes : List ℕ) where
+  abbrev put : Module → Served
+  put m = served (stateOf m h) bytes
+
+  pub record Over (m : Module) (item : ℕ) (n : Module) : Type 0 where
+    pub held : sclPulled (n .phase) ≡ sclPulled (m .phase)
+    pub stands : standingOf (stateOf n h) ≡ standingOf (stateOf m h)
+    pub brush : brushOf n ≡ brushOn (brushOf m) item
+    pub taken : itemTaken (put m) item ≡ put n
+    pub word : wordAt (put m) item ≡ inkOf (standingOf (stateOf m h)) (brushOf m) (brushOf n) item
+
+  module _ (c : Config) (enabled : c .sspen ≡ true) (l : Live) (ph : Phase) (w : Seen) (item : ℕ) (free : isCalled ph item ≡ false) where
+    abbrev m : Module
+    m = moduleSeen c l ph w
+
+    abbrev next : Phase → Seen → Module
+    next ph′ w′ = moduleSeen c l ph′ w′
+
+    -- Without a call the word is the sample's.
+    word-free :
+        {n : Module} → sampled m (sclOf item) (sdaOf item) ≡ n
+        → wordAt (put m) item ≡ wordBy (standingOf (stateOf n h)) (linesOf n) (eventsOf false false (edgeAt m item) (inConflict ph item))
+    word-free e =
+        ap (λ (t : Bool). wordBy (standingOf (after (metIf t (put m)) (Sample (sclOf item) (sdaOf item)) .state)) (linesOf (after (metIf t (put m)) (Sample (sclOf item) (sdaOf item)) .state .mssp)) (eventsOf t (t && storing (stateOf m h)) (edgeAt (metIf t (put m) .state .mssp) item) (inConflict (metIf t (put m) .state .mssp .phase) item))) free
+        ∙ ap (λ (n : Module). wordBy (standingOf (stateOf n h)) (linesOf n) (eventsOf false false (edgeAt m item) (inConflict ph item))) e
+
+    over-so : {ph′ : Phase} {w′ : Seen} → Sampled c l ph w item ph′ w′ → Over m item (next ph′ w′)
+    over-so {ph′} {w′} k =
+        let scl : Bool = onWire (sclPulled ph) (sclOf item) in
+        let sda : Bool = onWire (sdaPulled ph) (sdaOf item) in
+        let same : scl ≡ sclOf item = as-recorded (sclPulled ph) (sclOf item) free in
+        let alike : Alike ph w scl ph′ = subst (Alike ph w scl) (sym (k .phase)) (phase-alike ph w scl sda) in
+        let stands : standingOf (stateOf (next ph′ w′) h) ≡ standingOf (stateOf m h) =
+            ap₂ (λ (held : Bool) (number : ℕ). standingBy (boolByte held) number (statOf c l (eqb number 8)) (flagsOf m) (h .pointer) (l .buf)) (alike .1) (alike .0) in
+        let brush : brushOf (next ph′ w′) ≡ brushOn (brushOf m) item =
+            ap (λ (x : Seen). brushIn ph′ (x .scl)) (k .wire) ∙ alike .2 ∙ ap (brushStep (brushIn ph (w .scl))) same in
+        record {
+          held = alike .1;
+          stands = stands;
+          brush = brush;
+          taken = ap (λ (t : Bool). after (metIf t (put m)) (Sample (sclOf item) (sdaOf item))) free ∙ ap put (k .leaves);
+          word =
+              word-free (k .leaves)
+              ∙ ap₂ (λ (s e : ℕ). wordBy s (linesOf (next ph′ w′)) e) stands
+              (ap (λ (t : Bool). eventsOf false false (cond t (edgeOf (lineOf w) scl sda) Still) (inConflict ph item)) enabled
+              ∙ calm-events (edgeOf (lineOf w) scl sda) (inConflict ph item) (k .calm))
+              ∙ ap (λ (x : Seen). wordBy (standingOf (stateOf m h)) (linesBy (sdaPulled ph′) (w′ .scl) (x .sda)) (eventsOf false false Still (inConflict ph item))) (k .wire);
+        }

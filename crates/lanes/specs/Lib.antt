@@ -1,0 +1,5 @@
+pub mod Paint
+pub mod Lanes
+pub mod Writing
+pub mod Painting
+pub mod Drawing
