@@ -1,5 +1,5 @@
 -- The loop of a drawing: over a stretch the painted words are those of its items; every other item is drawn by itself.
-use Prim.Native.Nat.{ℕ, suc, _+_, _-_, _%_, _<_, _≤_}
+use Prim.Native.Nat.{ℕ, suc, _+_, _-_, _/_, _%_, _<_, _≤_}
 use mathlib.Core.Path.{_≡_, refl, sym, ap, ap₂, subst, _∙_}
 use mathlib.Core.Bool.{Bool, true, false, cond, _&&_, _||_, not}
 use mathlib.Core.List.{List, [], _∷_, _++_}
@@ -12,6 +12,7 @@ use lib.Seq.{drop-cons, drop-drop, drop-append-le, take-append-le, take-take, le
 use borrow.Author.Tests.{leb-true}
 use Rattle.truth.specs.Tests.{never, or-false}
 use Rattle.items.specs.First.{leading, firstAbove}
+use Rattle.items.specs.Theorems.{first-within}
 use Rattle.wire.specs.declared.Edge.{Edge}
 use Rattle.wire.specs.declared.Edge.the-variants.{Still, Start, Stop, Rise, Fall}
 use Rattle.wire.specs.Byte.{zeroAt}
@@ -86,7 +87,7 @@ as-recorded true true h = never (sym h)
 as-recorded true false h = refl
 as-recorded false level h = refl
 
-abbrev brushOf : Module → Brush
+abbrev pub brushOf : Module → Brush
 brushOf m = brushIn (m .phase) (sclHigh (m .line .remembered))
 
 module _ (h : Handler) (bytes : List ℕ) where
@@ -137,3 +138,89 @@ module _ (h : Handler) (bytes : List ℕ) where
               ∙ calm-events (edgeOf (lineOf w) scl sda) (inConflict ph item) (k .calm))
               ∙ ap (λ (x : Seen). wordBy (standingOf (stateOf m h)) (linesBy (sdaPulled ph′) (w′ .scl) (x .sda)) (eventsOf false false Still (inConflict ph item))) (k .wire);
         }
+
+  -- ---- a walk of samples
+  pub record Passes (m : Module) (items : List ℕ) (n : Module) (k : ℕ) : Type 0 where
+    pub stands : standingOf (stateOf n h) ≡ standingOf (stateOf m h)
+    pub taken : (tail : List ℕ) → allTaken (put m) (items ++ tail) ≡ allTaken (put n) (drop k items ++ tail)
+    pub words :
+        (tail : List ℕ)
+        → allWords (put m) (items ++ tail) ≡ painted (standingOf (stateOf m h)) (brushOf m) (take k items) ++ allWords (put n) (drop k items ++ tail)
+
+  -- Where the handler is not called at any of the items.
+  pub data Free (held : Bool) : List ℕ → Type 0 where
+    no-more : Free held []
+    one-more : {item : ℕ} {items : List ℕ} → held && sclOf item ≡ false → Free held items → Free held (item ∷ items)
+
+  abbrev FreePasses : Module → List ℕ → Module → ℕ → Type 0
+  FreePasses m items n k = Free (sclPulled (m .phase)) items → Passes m items n k
+
+  passes-nowhere : (m : Module) (items : List ℕ) → FreePasses m items m 0
+  unfolding painted
+  passes-nowhere m items f = record { stands = refl; taken = λ tail. refl; words = λ tail. refl }
+
+  passes-on : {m n o : Module} {item : ℕ} {items : List ℕ} {k : ℕ} → Over m item n → Passes n items o k → Passes m (item ∷ items) o (suc k)
+  unfolding allTaken allWords painted
+  passes-on {m} {n} {o} {item} {items} {k} step rest =
+      record {
+        stands = rest .stands ∙ step .stands;
+        taken = λ tail. ap (λ (w : Served). allTaken w (items ++ tail)) (step .taken) ∙ rest .taken tail;
+        words = λ tail.
+            ap₂ (λ (x : ℕ) (w : Served). x ∷ allWords w (items ++ tail)) (step .word) (step .taken)
+            ∙ ap (λ (xs : List ℕ). inkOf (standingOf (stateOf m h)) (brushOf m) (brushOf n) item ∷ xs) (rest .words tail)
+            ∙ ap₂ (λ (s : ℕ) (b : Brush). inkOf (standingOf (stateOf m h)) (brushOf m) b item ∷ (painted s b (take k items) ++ allWords (put o) (drop k items ++ tail))) (step .stands) (step .brush);
+      }
+
+  module _ (P : Type 0) (stops : P → ℕ → Bool) (goes : P → ℕ → P) (c : Config) (enabled : c .sspen ≡ true) (l : Live) (ph : P → Phase) (wire : P → Seen) (law : (p : P) (item : ℕ) → stops p item ≡ false → Sampled c l (ph p) (wire p) item (ph (goes p item)) (wire (goes p item))) where
+    abbrev seenAt : P → Module
+    seenAt p = moduleSeen c l (ph p) (wire p)
+
+    walks-if :
+        (t : Bool) (p : P) (x : ℕ) (xs : List ℕ) → stops p x ≡ t
+        → FreePasses (seenAt (goes p x)) xs (seenAt (walked stops goes (goes p x) xs)) (steps stops goes (goes p x) xs)
+        → FreePasses (seenAt p) (x ∷ xs) (seenAt (cond t p (walked stops goes (goes p x) xs))) (cond t 0 (suc (steps stops goes (goes p x) xs)))
+    walks-if true p x xs e rest f = passes-nowhere (seenAt p) (x ∷ xs) f
+    walks-if false p x xs e rest (one-more free f) =
+        let o = over-so c enabled l (ph p) (wire p) x free (law p x e) in
+        passes-on o (rest (subst (λ (held : Bool). Free held xs) (sym (o .held)) f))
+
+    passes-walks : (p : P) (items : List ℕ) → FreePasses (seenAt p) items (seenAt (walked stops goes p items)) (steps stops goes p items)
+    unfolding walked steps
+    passes-walks p [] = passes-nowhere (seenAt p) []
+    passes-walks p (x ∷ xs) = walks-if (stops p x) p x xs refl (passes-walks (goes p x) xs)
+
+  -- ---- the stretch ahead, up to an item at which the handler can be called
+  low-free : (item : ℕ) → leb item 1 ≡ true → sclOf item ≡ false
+  low-free item e = let k = leb-true item 1 e in let z : item / 2 ≡ 0 = omega arith in ap (λ (x : ℕ). eqb (x % 2) 1) z
+
+  front-if : (t : Bool) (x : ℕ) (xs : List ℕ) → leb x 1 ≡ t → Free true (take (firstAbove 1 xs) xs) → Free true (take (cond t (suc (firstAbove 1 xs)) 0) (x ∷ xs))
+  front-if true x xs e rest = one-more (low-free x e) rest
+  front-if false x xs e rest = no-more
+
+  lows-free : (items : List ℕ) → Free true (take (firstAbove 1 items) items)
+  unfolding leading
+  lows-free [] = no-more
+  lows-free (x ∷ xs) = front-if (leb x 1) x xs refl (lows-free xs)
+
+  all-free : (items : List ℕ) → Free false items
+  all-free [] = no-more
+  all-free (x ∷ xs) = one-more refl (all-free xs)
+
+  front-free : (held : Bool) (items : List ℕ) → Free held (take (cond held (firstAbove 1 items) (length items)) items)
+  front-free true items = lows-free items
+  front-free false items = all-free (take (length items) items)
+
+  pub stretch-passes :
+      (m : Module) (items : List ℕ) → let part : List ℕ = take (freeOf (m .phase) items) items in
+      let r : Fed = stretchPassed m part in
+      Passes m part (r .mssp) (r .length) × (r .length ≤ length part)
+  stretch-passes m items =
+      let k = passed-along FreePasses passes-nowhere (λ P stops goes c enabled l ph wire law. passes-walks P stops goes c enabled l ph wire law) m (take (freeOf (m .phase) items) items) in
+      (k .0 (front-free (sclPulled (m .phase)) items), k .1)
+
+within-if : (held : Bool) (items : List ℕ) → cond held (firstAbove 1 items) (length items) ≤ length items
+within-if true items = first-within 1 items
+within-if false items = omega arith
+
+pub free-within : (ph : Phase) (items : List ℕ) → freeOf ph items ≤ length items
+free-within ph items = within-if (sclPulled ph) items

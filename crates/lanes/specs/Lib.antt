@@ -3,3 +3,4 @@ pub mod Lanes
 pub mod Writing
 pub mod Painting
 pub mod Drawing
+pub mod Loop

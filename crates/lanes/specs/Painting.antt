@@ -1,13 +1,13 @@
 -- The laws of painting: the same item again leaves the same word; and what is painted over a stretch are the words of its items.
 use Prim.Native.Nat.{ℕ, zero, suc, _+_, _-_, _%_, _<_, _≤_}
-use mathlib.Core.Path.{_≡_, refl, sym, ap, ap₂, _∙_}
+use mathlib.Core.Path.{_≡_, refl, sym, ap, ap₂, subst, _∙_}
 use mathlib.Core.Bool.{Bool, true, false, Bool·beq, cond, _&&_, _||_, not}
 use mathlib.Core.List.{List, [], _∷_, _++_}
 use native.Mathlib.Omega.{arith}
 use native.Mathlib.Numerals.{add-one}
 use lib.Dec.{eqb}
-use lib.ListN.{length, drop, getD, length-drop}
-use lib.Seq.{drop-cons, drop-drop}
+use lib.ListN.{length, take, drop, getD, length-drop, drop-of-length-le}
+use lib.Seq.{drop-cons, drop-drop, length-take-le}
 use borrow.Author.Tests.{eqb-true}
 use Rattle.items.specs.First.{leading, sames}
 use Rattle.items.specs.Theorems.{leading-within}
@@ -15,9 +15,11 @@ use Rattle.wire.specs.declared.Edge.the-variants.{Still}
 use Rattle.wire.specs.Byte.{zeroAt}
 use Rattle.wire.specs.Wire.{sclOf, sdaOf, onWire}
 use Rattle.sampling.specs.Laws.{equal}
+use Rattle.firmware.specs.Window.{splice}
 use Rattle.words.specs.Words.{linesBy, eventsOf, wordBy}
 use Rattle.lanes.specs.declared.Brush.{Brush}
 use Rattle.lanes.specs.Paint.{brushOn, inkOf, painted, repeated, sameUntil}
+use Rattle.lanes.specs.Writing.{Written, part-written, all-written}
 
 -- ---- so many times the same word
 pub repeated-length : (n word : ℕ) → length (repeated n word) ≡ n
@@ -102,3 +104,48 @@ module _ (standing : ℕ) (items : List ℕ) (i : ℕ) (b : Brush) (h : i < leng
 
   pub run-goes : Goes (Bool·beq (b .pulls) (next .pulls))
   run-goes = goes-if (Bool·beq (b .pulls) (next .pulls)) refl
+
+pub record Painting (standing : ℕ) (b₀ : Brush) (items : List ℕ) (i : ℕ) (lanes : List ℕ) (b : Brush) : Type 0 where
+  pub written : Written (painted standing b₀ items) (length items) i lanes (painted standing b (drop i items))
+
+-- What follows from what the code knows of a run.
+pub record RunPainted (standing : ℕ) (b₀ : Brush) (items : List ℕ) (i word end : ℕ) (lanes : List ℕ) (next : Brush) : Type 0 where
+  pub forward : i < end
+  pub within : end ≤ length items
+  pub painted-on :
+      (filled : List ℕ) → filled ≡ repeated (length (take (end - i) (drop i lanes))) word
+      → Painting standing b₀ items end (splice i (end - i) filled lanes) next
+
+module _ {standing : ℕ} {b₀ : Brush} {items : List ℕ} {i : ℕ} {lanes : List ℕ} {b : Brush} (before : Painting standing b₀ items i lanes b) where
+  pub run-painted :
+      {word end : ℕ} {next : Brush} → i < length items → next ≡ brushOn b (getD items i 0) → word ≡ inkOf standing b next (getD items i 0)
+      → end ≡ sameUntil items i (getD items i 0) (Bool·beq (b .pulls) (next .pulls)) → RunPainted standing b₀ items i word end lanes next
+  run-painted h en ew ee =
+      rw (ee, ew, en)
+      (let end : ℕ = sameUntil items i (getD items i 0) (Bool·beq (b .pulls) (brushOn b (getD items i 0) .pulls)) in
+      let next : Brush = brushOn b (getD items i 0) in
+      let word : ℕ = inkOf standing b next (getD items i 0) in
+      let w = before .written in
+      let k = run-goes standing items i b h in
+      let forward = k .1 in
+      let within = k .2 in
+      let back : i + (end - i) ≡ end = omega arith in
+      let l = w .long in
+      let left : length (drop i lanes) ≡ length lanes - i = length-drop i lanes in
+      let lent : length (take (end - i) (drop i lanes)) ≡ end - i = length-take-le (end - i) (drop i lanes) (omega arith) in
+      record {
+        forward = forward;
+        within = within;
+        painted-on = λ filled f.
+            let new : filled ≡ repeated (end - i) word = f ∙ ap (λ (n : ℕ). repeated n word) lent in
+            record {
+              written =
+                  subst (λ (n : ℕ). Written (painted standing b₀ items) (length items) n (splice i (end - i) filled lanes) (painted standing next (drop end items))) back
+                  (part-written w filled (painted standing next (drop end items)) (omega arith) (ap length new ∙ repeated-length (end - i) word)
+                  (k .0 ∙ ap (λ (xs : List ℕ). xs ++ painted standing next (drop end items)) (sym new)));
+            };
+      })
+
+  pub paint-ends : length items ≤ i → lanes ≡ painted standing b₀ items
+  unfolding painted
+  paint-ends h = all-written (before .written) h (ap (painted standing b) (drop-of-length-le items h))
