@@ -1,21 +1,24 @@
 -- The loop of a drawing, by what is left of the items: a stretch is passed and painted, then one item is drawn.
 use Prim.Native.Nat.{ℕ, suc, _+_, _-_, _<_, _≤_}
 use mathlib.Core.Path.{_≡_, refl, sym, ap, ap₂, subst, _∙_}
+use mathlib.Core.Bool.{Bool, true, false}
 use mathlib.Core.List.{List, [], _∷_, _++_}
 use native.Mathlib.Omega.{arith}
 use native.Mathlib.Numerals.{add-one}
-use lib.ListN.{length, take, drop, getD, set, length-drop, length-append, take-append-drop, drop-of-length-le}
+use lib.ListN.{length, take, drop, getD, set, length-take, length-drop, length-append, take-append-drop, drop-of-length-le}
 use lib.Seq.{drop-cons, drop-drop, drop-append-le, take-append-le, length-take-le}
 use Rattle.samples.specs.declared.Fed.{Fed}
 use Rattle.samples.specs.Samples.{stretchPassed}
 use Rattle.samples.specs.Loop.{lentFrom, lent-is}
+use Rattle.wire.specs.Wire.{sclHigh}
 use Rattle.mssp.specs.declared.Module.{Module}
 use Rattle.firmware.specs.declared.State.{State}
 use Rattle.firmware.specs.Handler.{Served, served, stateOf}
 use Rattle.firmware.specs.Window.{splice}
-use Rattle.words.specs.Words.{itemTaken, standingOf, mostStanding, DrawnItem, drawn, drawnItem}
+use Rattle.trace.specs.Theorems.{called-length}
+use Rattle.words.specs.Words.{isCalled, metIf, itemTaken, standingOf, mostStanding, DrawnItem, drawn, drawnItem}
 use Rattle.lanes.specs.declared.Brush.{Brush}
-use Rattle.lanes.specs.Paint.{brushOn, painted}
+use Rattle.lanes.specs.Paint.{brushIn, brushOn, painted}
 use Rattle.lanes.specs.Lanes.{allTaken, allWords, Laned, laned, lanedOf, freeOf}
 use Rattle.lanes.specs.Writing.{Written, writing-begins, one-written, part-written, all-written}
 use Rattle.lanes.specs.Drawing.{brushOf, Passes, stretch-passes}
@@ -85,16 +88,23 @@ module _ {w₀ : Served} {items : List ℕ} {i : ℕ} {t : State} {bytes lanes :
       {r : Fed} → r ≡ stretchPassed (t .mssp) (take (freeOf (t .mssp .phase) (lentFrom i items)) (lentFrom i items)) → i + r .length ≤ length items
   stretch-within is = passed-so is .within
 
+  -- As many words as items are lent.
+  pub stretch-alike :
+      {r : Fed} → r ≡ stretchPassed (t .mssp) (take (freeOf (t .mssp .phase) (lentFrom i items)) (lentFrom i items))
+      → length (take (i + r .length - i) (drop i items)) ≡ length (take (i + r .length - i) (drop i lanes))
+  stretch-alike is = simp (length-take, length-drop, before .written .long)
+
   pub stretch-drawn :
-      {r : Fed} {b : Brush} {u : State} {filled : List ℕ}
-      → r ≡ stretchPassed (t .mssp) (take (freeOf (t .mssp .phase) (lentFrom i items)) (lentFrom i items)) → b ≡ brushOf (t .mssp)
+      {r : Fed} {scl : Bool} {b : Brush} {u : State} {filled : List ℕ}
+      → r ≡ stretchPassed (t .mssp) (take (freeOf (t .mssp .phase) (lentFrom i items)) (lentFrom i items))
+      → scl ≡ sclHigh (t .mssp .line .remembered) → b ≡ brushIn (t .mssp .phase) scl
       → filled ≡ painted stands b (take (i + r .length - i) (drop i items)) → u ≡ stateOf (r .mssp) (t .handler)
       → Drawing w₀ items (i + r .length) (served u bytes) (splice i (i + r .length - i) filled lanes) stands
-  stretch-drawn {r} {b} {u} {filled} is e f v =
+  stretch-drawn {r} {b = b} {u} {filled} is high e f v =
       let p = passed-so is in
       let k : i + r .length - i ≡ r .length = omega arith in
       let inked : filled ≡ painted (standingOf t) (brushOf (t .mssp)) (take (r .length) (drop i items)) =
-          f ∙ ap (λ (n : ℕ). painted stands b (take n (drop i items))) k ∙ ap₂ (λ (s : ℕ) (c : Brush). painted s c (take (r .length) (drop i items))) (before .standing) e in
+          f ∙ ap (λ (n : ℕ). painted stands b (take n (drop i items))) k ∙ ap₂ (λ (s : ℕ) (c : Brush). painted s c (take (r .length) (drop i items))) (before .standing) (e ∙ ap (brushIn (t .mssp .phase)) high) in
       let more : List ℕ = allWords (served u bytes) (drop (i + r .length) items) in
       record {
         taken = ap (λ (x : State). allTaken (served x bytes) (drop (i + r .length) items)) v ∙ sym (p .taken) ∙ before .taken;
@@ -130,3 +140,20 @@ module _ {w₀ : Served} {items : List ℕ} {i : ℕ} {t : State} {bytes lanes :
   drawing-ends h =
       let none : drop i items ≡ [] = drop-of-length-le items h in
       ap₂ laned (sym (ap (allTaken (served t bytes)) none) ∙ before .taken) (all-written (before .written) h (ap (allWords (served t bytes)) none))
+
+-- ---- the window keeps its length
+met-length : (called : Bool) (w : Served) → length (metIf called w .bytes) ≡ length (w .bytes)
+met-length true w = called-length (w .state) (w .bytes)
+met-length false w = refl
+
+pub taken-length : (w : Served) (items : List ℕ) → length (allTaken w items .bytes) ≡ length (w .bytes)
+unfolding allTaken
+taken-length w [] = refl
+taken-length w (item ∷ items) = taken-length (itemTaken w item) items ∙ met-length (isCalled (w .state .mssp .phase) item) w
+
+pub window-stays :
+    {w₀ : Served} {items : List ℕ} {i : ℕ} {w : Served} {lanes : List ℕ} {stands : ℕ} → Drawing w₀ items i w lanes stands → length items ≤ i
+    → length (w .bytes) ≡ length (w₀ .bytes)
+unfolding allTaken
+window-stays {w₀} {items} {i} {w} before h =
+    ap (λ (v : Served). length (v .bytes)) (sym (ap (allTaken w) (drop-of-length-le items h)) ∙ before .taken) ∙ taken-length w₀ items

@@ -17,4 +17,4 @@ pass-spec =
     (λ c κs. search needs)
     (λ c. let a = c .before .before .before .args in sym (length-take-le _ (a .items .now) (omega (arith, free-within (a .m .phase) (a .items .now)))))
     (λ c κs. search needs)
-    (λ c. c .pass-stretch .ensures ∙ ap (λ (k : ℕ). stretchPassed _ (take k _)) (c .before .before .free .ensures)))
+    (λ c. let a = c .before .before .before .before .args in c .pass-stretch .ensures ∙ ap (λ (k : ℕ). stretchPassed (a .m) (take k (a .items .now))) (c .before .before .free .ensures)))
