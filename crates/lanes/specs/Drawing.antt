@@ -123,9 +123,9 @@ module _ (h : Handler) (bytes : List ℕ) where
         let same : scl ≡ sclOf item = as-recorded (sclPulled ph) (sclOf item) free in
         let alike : Alike ph w scl ph′ = subst (Alike ph w scl) (sym (k .phase)) (phase-alike ph w scl sda) in
         let stands : standingOf (stateOf (next ph′ w′) h) ≡ standingOf (stateOf m h) =
-            ap₂ (λ (held : Bool) (number : ℕ). standingBy (boolByte held) number (statOf c l (eqb number 8)) (flagsOf m) (h .pointer) (l .buf)) (alike .1) (alike .0) in
+        ap₂ (λ (held : Bool) (number : ℕ). standingBy (boolByte held) number (statOf c l (eqb number 8)) (flagsOf m) (h .pointer) (l .buf)) (alike .1) (alike .0) in
         let brush : brushOf (next ph′ w′) ≡ brushOn (brushOf m) item =
-            ap (λ (x : Seen). brushIn ph′ (x .scl)) (k .wire) ∙ alike .2 ∙ ap (brushStep (brushIn ph (w .scl))) same in
+        ap (λ (x : Seen). brushIn ph′ (x .scl)) (k .wire) ∙ alike .2 ∙ ap (brushStep (brushIn ph (w .scl))) same in
         record {
           held = alike .1;
           stands = stands;

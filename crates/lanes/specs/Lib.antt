@@ -4,3 +4,4 @@ pub mod Writing
 pub mod Painting
 pub mod Drawing
 pub mod Loop
+pub mod Laws

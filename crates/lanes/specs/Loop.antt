@@ -104,7 +104,7 @@ module _ {w₀ : Served} {items : List ℕ} {i : ℕ} {t : State} {bytes lanes :
       let p = passed-so is in
       let k : i + r .length - i ≡ r .length = omega arith in
       let inked : filled ≡ painted (standingOf t) (brushOf (t .mssp)) (take (r .length) (drop i items)) =
-          f ∙ ap (λ (n : ℕ). painted stands b (take n (drop i items))) k ∙ ap₂ (λ (s : ℕ) (c : Brush). painted s c (take (r .length) (drop i items))) (before .standing) (e ∙ ap (brushIn (t .mssp .phase)) high) in
+      f ∙ ap (λ (n : ℕ). painted stands b (take n (drop i items))) k ∙ ap₂ (λ (s : ℕ) (c : Brush). painted s c (take (r .length) (drop i items))) (before .standing) (e ∙ ap (brushIn (t .mssp .phase)) high) in
       let more : List ℕ = allWords (served u bytes) (drop (i + r .length) items) in
       record {
         taken = ap (λ (x : State). allTaken (served x bytes) (drop (i + r .length) items)) v ∙ sym (p .taken) ∙ before .taken;

@@ -92,12 +92,15 @@ module _ (standing : ℕ) (items : List ℕ) (i : ℕ) (b : Brush) (h : i < leng
       let k : ℕ = sames item (drop (i + 1) items) in
       let far : i + 1 + k - i ≡ suc k = omega arith in
       let l : length (drop (i + 1) items) ≡ length items - (i + 1) = length-drop (i + 1) items in
-      let within : k ≤ length (drop (i + 1) items) = leading-within (λ (x : ℕ). eqb x item) (drop (i + 1) items) in
-      (first
-      ∙ ap (λ (xs : List ℕ). word ∷ xs)
-      (past standing item word next (brush-again b item) (ap (λ (t : Bool). wordBy standing (linesBy (next .pulls) (next .scl) (onWire t (sdaOf item))) (eventsOf false false Still (t && eqb item 3))) (sym (equal (b .pulls) (next .pulls) e))) (drop (i + 1) items)
-      ∙ ap (λ (xs : List ℕ). repeated k word ++ painted standing next xs) (drop-drop k (i + 1) items))
-      ∙ ap (λ (n : ℕ). repeated n word ++ painted standing next (drop (i + 1 + k) items)) (sym far), omega arith, omega arith)
+      let within : k ≤ length (drop (i + 1) items) = leading-within (λ (x : ℕ). eqb x item) (drop (i + 1) items) in (
+        first
+            ∙ ap (λ (xs : List ℕ). word ∷ xs)
+            (past standing item word next (brush-again b item) (ap (λ (t : Bool). wordBy standing (linesBy (next .pulls) (next .scl) (onWire t (sdaOf item))) (eventsOf false false Still (t && eqb item 3))) (sym (equal (b .pulls) (next .pulls) e))) (drop (i + 1) items)
+            ∙ ap (λ (xs : List ℕ). repeated k word ++ painted standing next xs) (drop-drop k (i + 1) items))
+            ∙ ap (λ (n : ℕ). repeated n word ++ painted standing next (drop (i + 1 + k) items)) (sym far),
+        omega arith,
+        omega arith,
+      )
   goes-if false e =
       let far : i + 1 - i ≡ 1 = omega arith in
       (first ∙ ap (λ (n : ℕ). repeated n word ++ painted standing next (drop (i + 1) items)) (sym far), omega arith, omega arith)

@@ -3,15 +3,15 @@
 ghost use Prim.Native.Nat.{_+_, _≤_};
 ghost use mathlib.Core.Path.{_≡_};
 ghost use lib.ListN.{length, take};
-ghost use Rattle.firmware.specs.Handler.{served, stateOf};
+ghost use Rattle.firmware.specs.Handler.{served};
+ghost use Rattle.firmware.specs.Window.{windowOutcome};
 ghost use Rattle.samples.specs.Samples.{stretchPassed};
 ghost use Rattle.words.specs.Words.{mostStanding, standingOf};
 ghost use Rattle.lanes.specs.Paint.{brushIn, brushOn, inkOf, painted, repeated, sameUntil};
-ghost use Rattle.lanes.specs.Lanes.{freeOf, laned, lanedOf};
+ghost use Rattle.lanes.specs.Lanes.{freeOf, laned, lanedOf, lanedIn, shorterOf, drawing, drawInOf};
 use firmware::State;
 use mssp::Module;
 use mssp::Phase;
-use refusals::Refusal;
 use refusals::Verdict;
 use samples::Fed;
 use trace::Ran;
@@ -129,12 +129,6 @@ fn pass(m: Module, items: &[u8]) -> Fed
     samples::pass_stretch(m, &items[..end])
 }
 
-fn with_module(s: State, m: Module) -> State
-    ensures { λ r. ⌜ r ≡ stateOf m (s .handler) ⌝ }
-{
-    State { mssp: m, ..s }
-}
-
 // All the items: a stretch, then the item that a rule or the handler has to see.
 fn draw(s: State, window: &mut [u8], items: &[u8], lanes: &mut [u64]) -> State
     requires { ⌜ length (now items) ≡ length (now lanes) ⌝ }
@@ -153,7 +147,7 @@ fn draw(s: State, window: &mut [u8], items: &[u8], lanes: &mut [u64]) -> State
         let brush = brush_in(phase, wire::scl_high(remembered));
         paint(stands, brush, &items[i..end], &mut lanes[i..end]);
         let next = passed.mssp;
-        t = with_module(t, next);
+        t = trace::with_module(t, next);
         i = end;
         if i < items.len() {
             let drawn = words::draw_item(t, window, items[i]);
@@ -164,4 +158,63 @@ fn draw(s: State, window: &mut [u8], items: &[u8], lanes: &mut [u64]) -> State
         }
     }
     t
+}
+
+// The window is lent on: the drawing sees only its n bytes.
+fn draw_part(
+    s: State,
+    buffer: &mut [u8],
+    start: usize,
+    n: usize,
+    items: &[u8],
+    lanes: &mut [u64],
+) -> State
+    requires { ⌜ (start + n ≤ length (now buffer)) × (length (now items) ≡ length (now lanes)) ⌝ }
+    ensures { λ r. ⌜ laned (served r (now (buffer .exit))) (now (lanes .exit)) ≡ lanedIn s (now (buffer .entry)) start n (now (items .entry)) ⌝ }
+{
+    let end = start + n;
+    draw(s, &mut buffer[start..end], items, lanes)
+}
+
+// How many items are taken: as many as the shorter of record and lanes has.
+pub fn shorter(items: usize, room: usize) -> usize
+    ensures { λ r. ⌜ r ≡ shorterOf items room ⌝ }
+{
+    if room < items { room } else { items }
+}
+
+// The lanes of a record over a window of the caller's buffer. Refused, it changes nothing.
+pub fn draw_in(
+    s: State,
+    buffer: &mut [u8],
+    start: u64,
+    n: u64,
+    items: &[u8],
+    lanes: &mut [u64],
+) -> Ran
+    ensures { λ r. ⌜ drawing (windowOutcome (r .verdict) (r .item) (r .state) (now (buffer .exit))) (now (lanes .exit)) ≡ drawInOf s (now (buffer .entry)) start n (now (items .entry)) (now (lanes .entry)) ⌝ }
+{
+    let count = shorter(items.len(), lanes.len());
+    let judged = trace::judge(s, buffer, start, n, &items[..count], 3);
+    let verdict = judged.verdict;
+    if !refusals::is_accepted(verdict) {
+        return Ran {
+            verdict: verdict,
+            item: judged.item,
+            state: s,
+        };
+    }
+    let next = draw_part(
+        s,
+        buffer,
+        start as usize,
+        n as usize,
+        &items[..count],
+        &mut lanes[..count],
+    );
+    Ran {
+        verdict: Verdict::Done(0),
+        item: 0,
+        state: next,
+    }
 }

@@ -9,22 +9,27 @@ use Rattle.refusals.specs.declared.Verdict.the-variants.{Refused}
 use Rattle.firmware.specs.declared.State.{State}
 use Rattle.firmware.specs.Handler.{Served}
 use Rattle.firmware.specs.Window.{windowFits, inBuffer, WindowOutcome, windowOutcome, workDone}
-use Rattle.trace.specs.Run.{firstBad, runOf}
+use Rattle.items.specs.First.{firstAbove}
+use Rattle.trace.specs.Run.{runOf}
 use mathlib.Core.Path.{_≡_}
 
 abbrev pub ranIn : State → List ℕ → ℕ → ℕ → List ℕ → Served
 ranIn s buffer start n items = inBuffer (λ bytes. runOf s bytes items) buffer start n
 
--- By whether the window fits and whether an item is bad. Refused, state and buffer stay; beside 4 stands the first bad
--- item's number.
-abbrev pub runChoice : Bool → Bool → State → List ℕ → ℕ → ℕ → List ℕ → WindowOutcome
-runChoice false bad s buffer start n items = windowOutcome (Refused NoWindow) 0 s buffer
-runChoice true true s buffer start n items = windowOutcome (Refused NoItem) (firstBad items) s buffer
-runChoice true false s buffer start n items = workDone (ranIn s buffer start n items)
+-- Work over a window, by whether the window fits and whether an item is bad. Refused, state and buffer stay; beside 4 stands the
+-- first bad item's number.
+abbrev pub checked : Bool → Bool → ℕ → State → List ℕ → Served → WindowOutcome
+checked false bad item s buffer done = windowOutcome (Refused NoWindow) 0 s buffer
+checked true true item s buffer done = windowOutcome (Refused NoItem) item s buffer
+checked true false item s buffer done = workDone done
+
+-- With items of 0 to the largest.
+abbrev pub judgedOf : ℕ → State → List ℕ → ℕ → ℕ → List ℕ → Served → WindowOutcome
+judgedOf most s buffer start n items done =
+    checked (windowFits (length buffer) start n (s .handler .n)) (ltb (firstAbove most items) (length items)) (firstAbove most items) s buffer done
 
 abbrev pub runInOf : State → List ℕ → ℕ → ℕ → List ℕ → WindowOutcome
-runInOf s buffer start n items =
-    runChoice (windowFits (length buffer) start n (s .handler .n)) (ltb (firstBad items) (length items)) s buffer start n items
+runInOf s buffer start n items = judgedOf 4 s buffer start n items (ranIn s buffer start n items)
 
 -- The bytes before a window and those behind it, the same in two buffers.
 pub record SameOutside (start n : ℕ) (before after : List ℕ) : Type 0 where

@@ -5,7 +5,7 @@ ghost use lib.ListN.{length};
 ghost use Rattle.firmware.specs.Handler.{served, stateOf};
 ghost use Rattle.firmware.specs.Window.{windowOutcome};
 ghost use Rattle.trace.specs.Run.{runOf};
-ghost use Rattle.trace.specs.Window.{ranIn, runInOf};
+ghost use Rattle.trace.specs.Window.{ranIn, judgedOf, runInOf};
 use firmware::State;
 use mssp::Module;
 use refusals::Refusal;
@@ -18,7 +18,8 @@ pub struct Ran {
     pub state: State,
 }
 
-fn with_module(s: State, m: Module) -> State
+// The state with another module; the handler's variables stay.
+pub fn with_module(s: State, m: Module) -> State
     ensures { λ r. ⌜ r ≡ stateOf m (s .handler) ⌝ }
 {
     State { mssp: m, ..s }
@@ -55,23 +56,46 @@ fn run_part(s: State, buffer: &mut [u8], start: usize, n: usize, items: &[u8]) -
     run(s, &mut buffer[start..end], items)
 }
 
-// A run over a window of the caller's buffer. Refused with 5, then with 4, it changes nothing.
-pub fn run_in(s: State, buffer: &mut [u8], start: u64, n: u64, items: &[u8]) -> Ran
-    ensures { λ r. ⌜ windowOutcome (r .verdict) (r .item) (r .state) (now (buffer .exit)) ≡ runInOf s (now (buffer .entry)) start n (now (items .entry)) ⌝ }
+// What a look at the window and at the items tells: refused with 5, then with 4 and the first bad item's number, or not.
+pub struct Judged {
+    pub verdict: Verdict,
+    pub item: u64,
+}
+
+// Work over a window of the caller's buffer with items of 0 to the largest, before anything is changed.
+pub fn judge(s: State, buffer: &[u8], start: u64, n: u64, items: &[u8], most: u8) -> Judged
+    ensures { λ r. ⌜ windowOutcome (r .verdict) (r .item) s (now (buffer .entry)) ≡ judgedOf most s (now (buffer .entry)) start n (now (items .entry)) (served s (now (buffer .entry))) ⌝ }
 {
     let wanted = s.handler.n;
     if !firmware::window_fits(buffer.len(), start, n, wanted) {
-        return Ran {
+        return Judged {
             verdict: Verdict::Refused(Refusal::NoWindow),
             item: 0,
-            state: s,
         };
     }
-    let bad = items::first_above(items, 4);
+    let bad = items::first_above(items, most);
     if bad < items.len() {
-        return Ran {
+        return Judged {
             verdict: Verdict::Refused(Refusal::NoItem),
             item: bad as u64,
+        };
+    }
+    Judged {
+        verdict: Verdict::Done(0),
+        item: 0,
+    }
+}
+
+// A run over a window of the caller's buffer. Refused, it changes nothing.
+pub fn run_in(s: State, buffer: &mut [u8], start: u64, n: u64, items: &[u8]) -> Ran
+    ensures { λ r. ⌜ windowOutcome (r .verdict) (r .item) (r .state) (now (buffer .exit)) ≡ runInOf s (now (buffer .entry)) start n (now (items .entry)) ⌝ }
+{
+    let judged = judge(s, buffer, start, n, items, 4);
+    let verdict = judged.verdict;
+    if !refusals::is_accepted(verdict) {
+        return Ran {
+            verdict: verdict,
+            item: judged.item,
             state: s,
         };
     }
