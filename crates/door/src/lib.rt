@@ -4,7 +4,7 @@ ghost use mathlib.Core.Path.{_≡_};
 ghost use Rattle.settling.specs.Outcome.{outcome, lent};
 ghost use Rattle.firmware_calls.specs.Calls.{doorSetup, doorCall, doorRun};
 ghost use Rattle.module_calls.specs.Calls.{doorRead, doorWrite, doorSample, doorLook, doorHit};
-ghost use Rattle.door.specs.Door.{doorFind};
+ghost use Rattle.door.specs.Door.{doorFind, takenOf, drawn, doorDraw};
 use settling::Answer;
 use view::View;
 
@@ -15,6 +15,15 @@ pub struct Part {
     pub item: u64,
     pub start: u64,
     pub length: u64,
+}
+
+// How far a drawing went: so many items taken, so many words written. Refused, none; beside refusal 4 the first bad item.
+#[repr(C)]
+pub struct Taken {
+    pub refusal: u32,
+    pub item: u64,
+    pub samples: u64,
+    pub items: u64,
 }
 
 // Makes a state and writes its image. Refuses with 6 (not 48 bytes), 5 (n outside 1 to 256).
@@ -69,6 +78,36 @@ pub extern "C" fn wherryoar_run(
     ensures { λ r. ⌜ lent (outcome r (now (state .exit))) (now (buffer .exit)) ≡ doorRun (now (state .entry)) (now (buffer .entry)) start n (now (items .entry)) ⌝ }
 {
     firmware_calls::run(state, buffer, start, n, items)
+}
+
+// Refused, nothing was taken.
+fn how_far(answer: Answer, count: usize) -> Taken
+    ensures { λ r. ⌜ r ≡ takenOf answer count ⌝ }
+{
+    let n = if answer.refusal == 0 { count as u64 } else { 0 };
+    Taken {
+        refusal: answer.refusal,
+        item: answer.item,
+        samples: n,
+        items: n,
+    }
+}
+
+// Draws the lanes of a wire record. Refuses with 6, 5, 4 (a level above 3 among the items that would be taken).
+#[no_mangle]
+pub extern "C" fn wherryoar_draw(
+    state: &mut [u8],
+    buffer: &mut [u8],
+    start: u64,
+    n: u64,
+    levels: &[u8],
+    lanes: &mut [u64],
+) -> Taken
+    ensures { λ r. ⌜ drawn r (now (state .exit)) (now (buffer .exit)) (now (lanes .exit)) ≡ doorDraw (now (state .entry)) (now (buffer .entry)) start n (now (levels .entry)) (now (lanes .entry)) ⌝ }
+{
+    let room = lanes.len();
+    let answer = firmware_calls::draw(state, buffer, start, n, levels, lanes);
+    how_far(answer, lanes::shorter(levels.len(), room))
 }
 
 // Looks at a state and changes nothing. Refuses with 6.

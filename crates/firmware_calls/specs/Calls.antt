@@ -1,4 +1,4 @@
--- What set-up, a handler call and a run answer and leave, for every input (01, "Calls, refusals and their order").
+-- What set-up, a handler call, a run and a drawing answer and leave, for every input (01, "Calls, refusals and their order").
 use Prim.Native.Nat.{ℕ}
 use mathlib.Core.Bool.{Bool, true, false}
 use mathlib.Core.List.{List}
@@ -10,6 +10,7 @@ use Rattle.firmware.specs.declared.Made.the-variants.{Ready, NotMade}
 use Rattle.firmware.specs.Handler.{setupOf}
 use Rattle.firmware.specs.Window.{WindowOutcome, callOf}
 use Rattle.trace.specs.Window.{runInOf}
+use Rattle.lanes.specs.Lanes.{Drawing, drawInOf}
 use Rattle.image.specs.Image.{imageLength, encodeOf, decodeOf}
 use Rattle.settling.specs.Outcome.{Outcome, outcome, Lent, lent, done, refused, settled, noState, byState}
 
@@ -35,3 +36,18 @@ doorCall bytes buffer start n = byWork (λ s. callOf s buffer start n) bytes buf
 
 abbrev pub doorRun : List ℕ → List ℕ → ℕ → ℕ → List ℕ → Lent
 doorRun bytes buffer start n items = byWork (λ s. runInOf s buffer start n items) bytes buffer
+
+-- ---- a drawing: work over a window, and the lanes
+pub record DrawnLent : Type 0 where
+  pub work : Lent
+  pub lanes : List ℕ
+
+abbrev pub drawnLent : Lent → List ℕ → DrawnLent
+drawnLent work lanes = record { work = work; lanes = lanes }
+
+abbrev pub settledDrawing : List ℕ → Drawing → DrawnLent
+settledDrawing bytes d = drawnLent (settledWork bytes (d .outcome)) (d .lanes)
+
+abbrev pub doorLanes : List ℕ → List ℕ → ℕ → ℕ → List ℕ → List ℕ → DrawnLent
+doorLanes bytes buffer start n items lanes =
+    byState (decodeOf bytes) (drawnLent (lent (noState bytes) buffer) lanes) (λ s. settledDrawing bytes (drawInOf s buffer start n items lanes))

@@ -12,10 +12,10 @@ use Rattle.refusals.specs.Numbers.{accepted}
 use Rattle.firmware.specs.declared.State.{State}
 use Rattle.firmware.specs.declared.Made.{Made}
 use Rattle.firmware.specs.declared.Made.the-variants.{Ready, NotMade}
-use Rattle.firmware.specs.Handler.{setupOf}
+use Rattle.firmware.specs.Handler.{Served, setupOf}
 use Rattle.firmware.specs.Window.{windowFits, WindowOutcome, callOf, callChoice}
-use Rattle.trace.specs.Run.{firstBad}
-use Rattle.trace.specs.Window.{runInOf, runChoice}
+use Rattle.items.specs.First.{firstAbove}
+use Rattle.trace.specs.Window.{ranIn, checked, judgedOf, runInOf}
 use Rattle.image.specs.Image.{imageLength, encodeOf, decodeOf}
 use Rattle.settling.specs.Outcome.{Keeps, KeepsLent}
 use Rattle.settling.specs.Theorems.{settled-keeps-lent, state-keeps-lent}
@@ -26,20 +26,26 @@ setup-if false made bytes h = refl
 setup-if true (NotMade why) bytes h = refl
 setup-if true (Ready s) bytes h = absurd (omega arith)
 
--- A refused call and a refused run leave the buffer.
+-- A refused call leaves the buffer.
 call-if :
     (s : State) (buffer : List ℕ) (start n : ℕ) (fits : Bool)
     → accepted (callChoice s buffer start n fits .verdict) ≡ false → callChoice s buffer start n fits .buffer ≡ buffer
 call-if s buffer start n true e = never (sym e)
 call-if s buffer start n false e = refl
 
-run-if :
-    (fits bad : Bool) (s : State) (buffer : List ℕ) (start n : ℕ) (items : List ℕ)
-    → accepted (runChoice fits bad s buffer start n items .verdict) ≡ false
-    → runChoice fits bad s buffer start n items .buffer ≡ buffer
-run-if false bad s buffer start n items e = refl
-run-if true true s buffer start n items e = refl
-run-if true false s buffer start n items e = never (sym e)
+checked-if :
+    (fits bad : Bool) (item : ℕ) (s : State) (buffer : List ℕ) (done : Served)
+    → accepted (checked fits bad item s buffer done .verdict) ≡ false → checked fits bad item s buffer done .buffer ≡ buffer
+checked-if false bad item s buffer done e = refl
+checked-if true true item s buffer done e = refl
+checked-if true false item s buffer done e = never (sym e)
+
+-- Work that is judged and refused leaves the buffer.
+pub judged-keeps :
+    (most : ℕ) (s : State) (buffer : List ℕ) (start n : ℕ) (items : List ℕ) (done : Served)
+    → accepted (judgedOf most s buffer start n items done .verdict) ≡ false → judgedOf most s buffer start n items done .buffer ≡ buffer
+judged-keeps most s buffer start n items done =
+    checked-if (windowFits (length buffer) start n (s .handler .n)) (ltb (firstAbove most items) (length items)) (firstAbove most items) s buffer done
 
 pub setup-keeps : (bytes : List ℕ) (add n : ℕ) → Keeps bytes (doorSetup bytes add n)
 setup-keeps bytes add n = setup-if (eqb (length bytes) imageLength) (setupOf add n) bytes
@@ -60,4 +66,4 @@ module _ (bytes buffer : List ℕ) where
     pub run-keeps : (items : List ℕ) → KeepsLent bytes buffer (doorRun bytes buffer start n items)
     run-keeps items =
         work-keeps (λ s. runInOf s buffer start n items)
-        (λ s. run-if (windowFits (length buffer) start n (s .handler .n)) (ltb (firstBad items) (length items)) s buffer start n items)
+        (λ s. judged-keeps 4 s buffer start n items (ranIn s buffer start n items))

@@ -1,8 +1,8 @@
-// The handler's own calls on the bytes of a state: set-up, a handler call, a run. Refusals are looked at in the paper's order,
+// The handler's own calls on the bytes of a state: set-up, a handler call, a run, a drawing. Refusals are looked at in the paper's order,
 // and a refused call changes no byte.
 ghost use mathlib.Core.Path.{_≡_};
 ghost use Rattle.settling.specs.Outcome.{outcome, lent};
-ghost use Rattle.firmware_calls.specs.Calls.{doorSetup, doorCall, doorRun};
+ghost use Rattle.firmware_calls.specs.Calls.{doorSetup, doorCall, doorRun, drawnLent, doorLanes};
 use firmware::Made;
 use image::Decoded;
 use image::IMAGE_LENGTH;
@@ -51,6 +51,28 @@ pub fn run(state: &mut [u8], buffer: &mut [u8], start: u64, n: u64, items: &[u8]
             let verdict = ran.verdict;
             let image = image::encode(ran.state);
             settling::settle(state, verdict, ran.item, &image)
+        }
+    }
+}
+
+// Draws the lanes of a wire record over a window of the caller's buffer.
+pub fn draw(
+    state: &mut [u8],
+    buffer: &mut [u8],
+    start: u64,
+    n: u64,
+    items: &[u8],
+    lanes: &mut [u64],
+) -> Answer
+    ensures { λ r. ⌜ drawnLent (lent (outcome r (now (state .exit))) (now (buffer .exit))) (now (lanes .exit)) ≡ doorLanes (now (state .entry)) (now (buffer .entry)) start n (now (items .entry)) (now (lanes .entry)) ⌝ }
+{
+    match image::decode(state) {
+        Decoded::NoImage => settling::no_state(),
+        Decoded::Image(s) => {
+            let drawn = lanes::draw_in(s, buffer, start, n, items, lanes);
+            let verdict = drawn.verdict;
+            let image = image::encode(drawn.state);
+            settling::settle(state, verdict, drawn.item, &image)
         }
     }
 }

@@ -5,7 +5,7 @@ use mathlib.Core.Bool.{Bool, true, false, cond}
 use mathlib.Core.List.{List, [], _∷_, map}
 use native.Mathlib.Omega.{arith}
 use lib.Dec.{T, ltb}
-use lib.ListN.{length}
+use lib.ListN.{length, take}
 use Rattle.truth.specs.Tests.{by-choice}
 use Rattle.refusals.specs.declared.Refusal.the-variants.{NoWindow}
 use Rattle.mssp.specs.declared.Module.{Module}
@@ -24,8 +24,12 @@ use Rattle.firmware.specs.Laws.{length-within}
 use Rattle.steps.specs.declared.Item.{Item}
 use Rattle.steps.specs.declared.Item.the-variants.{Sample, Call, Read, Write, NotAnItem}
 use Rattle.steps.specs.Step.{after, afterAll}
-use Rattle.trace.specs.Run.{firstBad, itemAt, runOf}
-use Rattle.trace.specs.Window.{runChoice, runInOf}
+use Rattle.items.specs.First.{firstAbove}
+use Rattle.wire.specs.Wire.{sclOf, sdaOf}
+use Rattle.trace.specs.Run.{itemAt, runOf}
+use Rattle.trace.specs.Window.{ranIn, checked, judgedOf, runInOf}
+use Rattle.words.specs.Words.{isCalled, metIf, met, itemTaken}
+use Rattle.lanes.specs.Lanes.{allTaken, lanedIn, shorterOf, drawInOf}
 use Rattle.runkept.specs.States.{ValidHandler, ValidState}
 
 -- ---- the module
@@ -113,16 +117,41 @@ items-kept w (item ∷ items) v = items-kept (after w item) items (item-kept w i
 pub run-kept : (s : State) (bytes items : List ℕ) → ValidState s → ValidState (runOf s bytes items .state)
 run-kept s bytes items v = items-kept (served s bytes) (map itemAt items) v
 
-run-in-if :
-    (fits bad : Bool) (s : State) (buffer : List ℕ) (start n : ℕ) (items : List ℕ) → ValidState s
-    → ValidState (runChoice fits bad s buffer start n items .state)
-run-in-if false bad s buffer start n items v = v
-run-in-if true true s buffer start n items v = v
-run-in-if true false s buffer start n items v = run-kept s (windowOf start n buffer) items v
+checked-kept :
+    (fits bad : Bool) (item : ℕ) (s : State) (buffer : List ℕ) (done : Served) → ValidState s → ValidState (done .state)
+    → ValidState (checked fits bad item s buffer done .state)
+checked-kept false bad item s buffer done v d = v
+checked-kept true true item s buffer done v d = v
+checked-kept true false item s buffer done v d = d
 
--- Refused or not.
+-- Work over a window, refused or not.
+pub judged-kept :
+    (most : ℕ) (s : State) (buffer : List ℕ) (start n : ℕ) (items : List ℕ) (done : Served) → ValidState s → ValidState (done .state)
+    → ValidState (judgedOf most s buffer start n items done .state)
+judged-kept most s buffer start n items done v d =
+    checked-kept (windowFits (length buffer) start n (s .handler .n)) (ltb (firstAbove most items) (length items)) (firstAbove most items) s buffer done v d
+
 pub run-in-kept :
     (s : State) (buffer : List ℕ) (start n : ℕ) (items : List ℕ) → ValidState s
     → ValidState (runInOf s buffer start n items .state)
 run-in-kept s buffer start n items v =
-    run-in-if (windowFits (length buffer) start n (s .handler .n)) (ltb (firstBad items) (length items)) s buffer start n items v
+    judged-kept 4 s buffer start n items (ranIn s buffer start n items) v (run-kept s (windowOf start n buffer) items v)
+
+-- A drawing.
+met-kept : (called : Bool) (w : Served) → ValidState (w .state) → ValidState (metIf called w .state)
+met-kept true w v = item-kept w Call v
+met-kept false w v = v
+
+pub taken-kept : (w : Served) (items : List ℕ) → ValidState (w .state) → ValidState (allTaken w items .state)
+unfolding allTaken
+taken-kept w [] v = v
+taken-kept w (item ∷ items) v =
+    taken-kept (itemTaken w item) items
+    (item-kept (met w item) (Sample (sclOf item) (sdaOf item)) (met-kept (isCalled (w .state .mssp .phase) item) w v))
+
+pub draw-in-kept :
+    (s : State) (buffer : List ℕ) (start n : ℕ) (items lanes : List ℕ) → ValidState s
+    → ValidState (drawInOf s buffer start n items lanes .outcome .state)
+draw-in-kept s buffer start n items lanes v =
+    let part : List ℕ = take (shorterOf (length items) (length lanes)) items in
+    judged-kept 3 s buffer start n part (lanedIn s buffer start n part .left) v (taken-kept (served s (windowOf start n buffer)) part v)
