@@ -27,13 +27,12 @@ use Rattle.mssp.specs.Drivers.{sclPulled, sdaPulled}
 use Rattle.register_bytes.specs.Bytes.{statOf}
 use Rattle.sampling.specs.Rules.{sampled}
 use Rattle.stretch.specs.declared.Seen.{Seen}
+use Rattle.stretch.specs.declared.Stretch.{Stretch}
 use Rattle.stretch.specs.Seen.{lineOf, seenOn, endedBy}
 use Rattle.stretch.specs.Walk.{walked, steps}
 use Rattle.stretch.specs.Stretch.{phaseOver}
 use Rattle.stretch.specs.Sampled.{moduleSeen, Sampled}
-use Rattle.samples.specs.declared.Fed.{Fed}
-use Rattle.samples.specs.Samples.{stretchPassed}
-use Rattle.samples.specs.Loop.{lentFrom, lent-is}
+use Rattle.samples.specs.Samples.{passedOver}
 use Rattle.samples.specs.Laws.{OnEachWalk, passed-along}
 use Rattle.firmware.specs.declared.Handler.{Handler}
 use Rattle.firmware.specs.declared.State.{State}
@@ -44,7 +43,7 @@ use Rattle.steps.specs.Step.{after}
 use Rattle.words.specs.Words.{isCalled, metIf, itemTaken, edgeAt, inConflict, eventsOf, linesBy, linesOf, flagsOf, standingBy, standingOf, mostStanding, wordBy, wordOf, wordAt, storing, DrawnItem, drawn, drawnItem}
 use Rattle.lanes.specs.declared.Brush.{Brush}
 use Rattle.lanes.specs.Paint.{brushIn, brushStep, brushOn, inkOf, painted}
-use Rattle.lanes.specs.Lanes.{allTaken, allWords, laned, lanedOf, freeOf}
+use Rattle.lanes.specs.Lanes.{allTaken, allWords, freeOf, freeStretch}
 use Rattle.lanes.specs.Writing.{Written, one-written, part-written, all-written}
 
 -- ---- what a level that ends no stretch leaves of a phase: number, hold and brush
@@ -211,12 +210,11 @@ module _ (h : Handler) (bytes : List ℕ) where
   front-free false items = all-free (take (length items) items)
 
   pub stretch-passes :
-      (m : Module) (items : List ℕ) → let part : List ℕ = take (freeOf (m .phase) items) items in
-      let r : Fed = stretchPassed m part in
-      Passes m part (r .mssp) (r .length) × (r .length ≤ length part)
+      (m : Module) (items : List ℕ) → let r : Stretch = freeStretch m items in
+      Passes m (take (freeOf (m .phase) items) items) (passedOver m r) (r .length)
   stretch-passes m items =
-      let k = passed-along FreePasses passes-nowhere (λ P stops goes c enabled l ph wire law. passes-walks P stops goes c enabled l ph wire law) m (take (freeOf (m .phase) items) items) in
-      (k .0 (front-free (sclPulled (m .phase)) items), k .1)
+      passed-along FreePasses passes-nowhere (λ P stops goes c enabled l ph wire law. passes-walks P stops goes c enabled l ph wire law) m (take (freeOf (m .phase) items) items)
+      (front-free (sclPulled (m .phase)) items)
 
 within-if : (held : Bool) (items : List ℕ) → cond held (firstAbove 1 items) (length items) ≤ length items
 within-if true items = first-within 1 items

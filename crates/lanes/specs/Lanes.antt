@@ -7,7 +7,10 @@ use lib.ListN.{length, take, drop}
 use Rattle.refusals.specs.Numbers.{accepted}
 use Rattle.items.specs.First.{firstAbove}
 use Rattle.mssp.specs.declared.Phase.{Phase}
+use Rattle.mssp.specs.declared.Module.{Module}
 use Rattle.mssp.specs.Drivers.{sclPulled}
+use Rattle.stretch.specs.declared.Stretch.{Stretch}
+use Rattle.stretch.specs.Stretch.{stretchOf}
 use Rattle.firmware.specs.declared.State.{State}
 use Rattle.firmware.specs.Handler.{Served, served}
 use Rattle.firmware.specs.Window.{windowOf, inBuffer, WindowOutcome}
@@ -37,6 +40,10 @@ lanedOf w items = laned (allTaken w items) (allWords w items)
 -- The items before a call of the handler can come: in a hold those with SCL low, else all.
 abbrev pub freeOf : Phase → List ℕ → ℕ
 freeOf ph items = cond (sclPulled ph) (firstAbove 1 items) (length items)
+
+-- The stretch ahead, up to such a call.
+abbrev pub freeStretch : Module → List ℕ → Stretch
+freeStretch m items = stretchOf m (take (freeOf (m .phase) items) items)
 
 -- ---- over a window of the caller's buffer
 abbrev pub lanedIn : State → List ℕ → ℕ → ℕ → List ℕ → Laned

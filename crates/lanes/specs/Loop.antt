@@ -7,8 +7,9 @@ use native.Mathlib.Omega.{arith}
 use native.Mathlib.Numerals.{add-one}
 use lib.ListN.{length, take, drop, getD, set, length-take, length-drop, length-append, take-append-drop, drop-of-length-le}
 use lib.Seq.{drop-cons, drop-drop, drop-append-le, take-append-le, length-take-le}
-use Rattle.samples.specs.declared.Fed.{Fed}
-use Rattle.samples.specs.Samples.{stretchPassed}
+use Rattle.stretch.specs.declared.Stretch.{Stretch}
+use Rattle.stretch.specs.Theorems.{stretch-within}
+use Rattle.samples.specs.Samples.{passedOver}
 use Rattle.samples.specs.Loop.{lentFrom, lent-is}
 use Rattle.wire.specs.Wire.{sclHigh}
 use Rattle.mssp.specs.declared.Module.{Module}
@@ -19,7 +20,7 @@ use Rattle.trace.specs.Theorems.{called-length}
 use Rattle.words.specs.Words.{isCalled, metIf, itemTaken, standingOf, mostStanding, DrawnItem, drawn, drawnItem}
 use Rattle.lanes.specs.declared.Brush.{Brush}
 use Rattle.lanes.specs.Paint.{brushIn, brushOn, painted}
-use Rattle.lanes.specs.Lanes.{allTaken, allWords, Laned, laned, lanedOf, freeOf}
+use Rattle.lanes.specs.Lanes.{allTaken, allWords, laned, lanedOf, freeOf, freeStretch}
 use Rattle.lanes.specs.Writing.{Written, writing-begins, one-written, part-written, all-written}
 use Rattle.lanes.specs.Drawing.{brushOf, Passes, stretch-passes}
 
@@ -28,7 +29,7 @@ unfolding painted
 painted-length standing b [] = refl
 painted-length standing b (item ∷ items) = ap suc (painted-length standing (brushOn b item) items)
 
-pub record Drawing (w₀ : Served) (items : List ℕ) (i : ℕ) (w : Served) (lanes : List ℕ) (stands : ℕ) : Type 0 where
+pub record Underway (w₀ : Served) (items : List ℕ) (i : ℕ) (w : Served) (lanes : List ℕ) (stands : ℕ) : Type 0 where
   pub taken : allTaken w (drop i items) ≡ allTaken w₀ items
   pub written : Written (allWords w₀ items) (length items) i lanes (allWords w (drop i items))
   pub standing : stands ≡ standingOf (w .state)
@@ -36,72 +37,73 @@ pub record Drawing (w₀ : Served) (items : List ℕ) (i : ℕ) (w : Served) (la
 
 pub drawing-begins :
     {w : Served} {items lanes : List ℕ} {stands : ℕ} → length items ≡ length lanes
-    → (stands ≡ standingOf (w .state)) × (stands ≤ mostStanding) → Drawing w items 0 w lanes stands
+    → (stands ≡ standingOf (w .state)) × (stands ≤ mostStanding) → Underway w items 0 w lanes stands
 drawing-begins l s = record { taken = refl; written = writing-begins (sym l); standing = s .0; most = s .1 }
 
 -- ---- the stretch ahead
 -- What is passed of the items from i on, and how many they are.
-record PassedFrom (items : List ℕ) (i : ℕ) (t : State) (bytes : List ℕ) (r : Fed) : Type 0 where
+record PassedFrom (items : List ℕ) (i : ℕ) (t : State) (bytes : List ℕ) (r : Stretch) : Type 0 where
   within : i + r .length ≤ length items
   long : length (take (r .length) (drop i items)) ≡ r .length
-  taken : allTaken (served t bytes) (drop i items) ≡ allTaken (served (stateOf (r .mssp) (t .handler)) bytes) (drop (i + r .length) items)
+  taken : allTaken (served t bytes) (drop i items) ≡ allTaken (served (stateOf (passedOver (t .mssp) r) (t .handler)) bytes) (drop (i + r .length) items)
   words :
       allWords (served t bytes) (drop i items)
-      ≡ painted (standingOf t) (brushOf (t .mssp)) (take (r .length) (drop i items)) ++ allWords (served (stateOf (r .mssp) (t .handler)) bytes) (drop (i + r .length) items)
-  stands : standingOf (stateOf (r .mssp) (t .handler)) ≡ standingOf t
+      ≡ painted (standingOf t) (brushOf (t .mssp)) (take (r .length) (drop i items)) ++ allWords (served (stateOf (passedOver (t .mssp) r) (t .handler)) bytes) (drop (i + r .length) items)
+  stands : standingOf (stateOf (passedOver (t .mssp) r) (t .handler)) ≡ standingOf t
 
 passed-from :
     (items : List ℕ) (i : ℕ) → i ≤ length items → (t : State) (bytes : List ℕ) → let rest : List ℕ = drop i items in
-    PassedFrom items i t bytes (stretchPassed (t .mssp) (take (freeOf (t .mssp .phase) rest) rest))
+    PassedFrom items i t bytes (freeStretch (t .mssp) rest)
 passed-from items i h t bytes =
     let rest : List ℕ = drop i items in
     let m : Module = t .mssp in
     let part : List ℕ = take (freeOf (m .phase) rest) rest in
     let tail : List ℕ = drop (freeOf (m .phase) rest) rest in
-    let r : Fed = stretchPassed m part in
+    let r : Stretch = freeStretch m rest in
     let k : ℕ = r .length in
     let all : part ++ tail ≡ rest = take-append-drop (freeOf (m .phase) rest) rest in
     let p = stretch-passes (t .handler) bytes m rest in
-    let inside = p .1 in
+    let inside = stretch-within m part in
     let sum : length part + length tail ≡ length rest = sym (length-append part tail) ∙ ap length all in
     let left : length rest ≡ length items - i = length-drop i items in
     let on : drop k part ++ tail ≡ drop (i + k) items = sym (drop-append-le k part tail inside) ∙ ap (drop k) all ∙ drop-drop k i items in
     let front : take k part ≡ take k rest = sym (take-append-le k part tail inside) ∙ ap (take k) all in
-    let after : Served = served (stateOf (r .mssp) (t .handler)) bytes in
+    let after : Served = served (stateOf (passedOver (t .mssp) r) (t .handler)) bytes in
     record {
       within = omega arith;
       long = length-take-le k rest (omega arith);
-      taken = ap (allTaken (served t bytes)) (sym all) ∙ p .0 .taken tail ∙ ap (allTaken after) on;
+      taken = ap (allTaken (served t bytes)) (sym all) ∙ p .taken tail ∙ ap (allTaken after) on;
       words =
-          ap (allWords (served t bytes)) (sym all) ∙ p .0 .words tail
+          ap (allWords (served t bytes)) (sym all) ∙ p .words tail
           ∙ ap₂ (λ (xs ys : List ℕ). painted (standingOf t) (brushOf m) xs ++ allWords after ys) front on;
-      stands = p .0 .stands;
+      stands = p .stands;
     }
 
 module _ {w₀ : Served} {items : List ℕ} {i : ℕ} {t : State} {bytes lanes : List ℕ} {stands : ℕ} (before : Drawing w₀ items i (served t bytes) lanes stands) where
-  passed-so : {r : Fed} → r ≡ stretchPassed (t .mssp) (take (freeOf (t .mssp .phase) (lentFrom i items)) (lentFrom i items)) → PassedFrom items i t bytes r
+  passed-so : {r : Stretch} → r ≡ freeStretch (t .mssp) (lentFrom i items) → PassedFrom items i t bytes r
   passed-so {r} is =
-      subst (PassedFrom items i t bytes) (sym (is ∙ ap (λ (xs : List ℕ). stretchPassed (t .mssp) (take (freeOf (t .mssp .phase) xs) xs)) (lent-is i items)))
+      subst (PassedFrom items i t bytes) (sym (is ∙ ap (λ (xs : List ℕ). freeStretch (t .mssp) xs) (lent-is i items)))
       (passed-from items i (before .written .within) t bytes)
 
-  pub stretch-within :
-      {r : Fed} → r ≡ stretchPassed (t .mssp) (take (freeOf (t .mssp .phase) (lentFrom i items)) (lentFrom i items)) → i + r .length ≤ length items
-  stretch-within is = passed-so is .within
+  pub stretch-inside :
+      {r : Stretch} → r ≡ freeStretch (t .mssp) (lentFrom i items) → i + r .length ≤ length items
+  stretch-inside is = passed-so is .within
 
   -- As many words as items are lent.
   pub stretch-alike :
-      {r : Fed} → r ≡ stretchPassed (t .mssp) (take (freeOf (t .mssp .phase) (lentFrom i items)) (lentFrom i items))
+      {r : Stretch} → r ≡ freeStretch (t .mssp) (lentFrom i items)
       → length (take (i + r .length - i) (drop i items)) ≡ length (take (i + r .length - i) (drop i lanes))
   stretch-alike is = simp (length-take, length-drop, before .written .long)
 
   pub stretch-drawn :
-      {r : Fed} {scl : Bool} {b : Brush} {u : State} {filled : List ℕ}
-      → r ≡ stretchPassed (t .mssp) (take (freeOf (t .mssp .phase) (lentFrom i items)) (lentFrom i items))
+      {r : Stretch} {scl : Bool} {b : Brush} {n : Module} {u : State} {filled : List ℕ} → r ≡ freeStretch (t .mssp) (lentFrom i items)
       → scl ≡ sclHigh (t .mssp .line .remembered) → b ≡ brushIn (t .mssp .phase) scl
-      → filled ≡ painted stands b (take (i + r .length - i) (drop i items)) → u ≡ stateOf (r .mssp) (t .handler)
+      → filled ≡ painted stands b (take (i + r .length - i) (drop i items)) → n ≡ passedOver (t .mssp) r
+      → u ≡ stateOf n (t .handler)
       → Drawing w₀ items (i + r .length) (served u bytes) (splice i (i + r .length - i) filled lanes) stands
-  stretch-drawn {r} {b = b} {u} {filled} is high e f v =
+  stretch-drawn {r} {b = b} {u = u} {filled} is high e f over at =
       let p = passed-so is in
+      let v : u ≡ stateOf (passedOver (t .mssp) r) (t .handler) = at ∙ ap (λ (x : Module). stateOf x (t .handler)) over in
       let k : i + r .length - i ≡ r .length = omega arith in
       let inked : filled ≡ painted (standingOf t) (brushOf (t .mssp)) (take (r .length) (drop i items)) =
       f ∙ ap (λ (n : ℕ). painted stands b (take n (drop i items))) k ∙ ap₂ (λ (s : ℕ) (c : Brush). painted s c (take (r .length) (drop i items))) (before .standing) (e ∙ ap (brushIn (t .mssp .phase)) high) in

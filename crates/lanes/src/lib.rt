@@ -2,18 +2,17 @@
 // painted; every other item is drawn by itself.
 ghost use Prim.Native.Nat.{_+_, _≤_};
 ghost use mathlib.Core.Path.{_≡_};
-ghost use lib.ListN.{length, take};
+ghost use lib.ListN.{length};
 ghost use Rattle.firmware.specs.Handler.{served};
 ghost use Rattle.firmware.specs.Window.{windowOutcome};
-ghost use Rattle.samples.specs.Samples.{stretchPassed};
 ghost use Rattle.words.specs.Words.{mostStanding, standingOf};
 ghost use Rattle.lanes.specs.Paint.{brushIn, brushOn, inkOf, painted, repeated, sameUntil};
-ghost use Rattle.lanes.specs.Lanes.{freeOf, laned, lanedOf, lanedIn, shorterOf, drawing, drawInOf};
+ghost use Rattle.lanes.specs.Lanes.{freeOf, freeStretch, laned, lanedOf, lanedIn, shorterOf, drawing, drawInOf};
 use firmware::State;
 use mssp::Module;
 use mssp::Phase;
 use refusals::Verdict;
-use samples::Fed;
+use stretch::Stretch;
 use trace::Ran;
 use wire::Edge;
 
@@ -120,13 +119,13 @@ fn free(phase: Phase, items: &[u8]) -> usize
     }
 }
 
-// Over the stretch ahead, up to such a call.
-fn pass(m: Module, items: &[u8]) -> Fed
-    ensures { λ r. ⌜ r ≡ stretchPassed m (take (freeOf (m .phase) (now (items .entry))) (now (items .entry))) ⌝ }
+// The stretch ahead, up to such a call.
+fn ahead(m: Module, items: &[u8]) -> Stretch
+    ensures { λ r. ⌜ r ≡ freeStretch m (now (items .entry)) ⌝ }
 {
     let phase = m.phase;
     let end = free(phase, items);
-    samples::pass_stretch(m, &items[..end])
+    stretch::ahead(stretch::stand_of(m), &items[..end])
 }
 
 // All the items: a stretch, then the item that a rule or the handler has to see.
@@ -142,11 +141,11 @@ fn draw(s: State, window: &mut [u8], items: &[u8], lanes: &mut [u64]) -> State
         let phase = m.phase;
         let line = m.line;
         let remembered = line.remembered;
-        let passed = pass(m, &items[i..]);
+        let passed = ahead(m, &items[i..]);
         let end = i + passed.length;
         let brush = brush_in(phase, wire::scl_high(remembered));
         paint(stands, brush, &items[i..end], &mut lanes[i..end]);
-        let next = passed.mssp;
+        let next = samples::pass_over(m, passed);
         t = trace::with_module(t, next);
         i = end;
         if i < items.len() {

@@ -1,6 +1,6 @@
 -- A stretch is a part of the samples: every item of it is a sample that the rules leave the module with where the stretch does.
 use Prim.Native.Nat.{ℕ, zero, suc, _+_, _-_, _<_, _≤_}
-use mathlib.Core.Path.{_≡_, refl, sym, ap, subst, _∙_}
+use mathlib.Core.Path.{_≡_, refl, sym, ap, ap₂, subst, _∙_}
 use mathlib.Core.Bool.{Bool, true, false, cond}
 use mathlib.Core.List.{List, [], _∷_}
 use native.Mathlib.Nat.{add-zero}
@@ -17,7 +17,8 @@ use Rattle.mssp.specs.declared.Live.{Live}
 use Rattle.mssp.specs.declared.Phase.{Phase}
 use Rattle.mssp.specs.declared.Phase.the-variants.{Quiet, Address, Data, HeldBefore, Slot, HeldForSending, Sending, MasterAcknowledge, HeldForAdd}
 use Rattle.mssp.specs.declared.Module.{Module}
-use Rattle.mssp.specs.Module.{moduleOf}
+use Rattle.mssp.specs.declared.Stand.{Stand}
+use Rattle.mssp.specs.Module.{moduleOf, standOf}
 use Rattle.mssp.specs.Phases.{phaseNumber, bitsOf, isSending}
 use Rattle.phase_image.specs.Laws.{by-number}
 use Rattle.mssp.specs.Drivers.{sclPulled, sdaPulled}
@@ -25,12 +26,12 @@ use Rattle.stretch.specs.declared.Seen.{Seen}
 use Rattle.stretch.specs.declared.Stretch.{Stretch}
 use Rattle.stretch.specs.Walk.{walked, steps}
 use Rattle.stretch.specs.Walking.{Onward, walk-onward, Walking, walk-on, walk-by, walk-stops, walk-out}
-use Rattle.stretch.specs.Stretch.{takesBits, withBits, riseRule, fallRule, stretchBy, takingStops, takingGoes, sendingStops, sendingGoes, restingStops, restingGoes, stretchFrom, stretchOf}
+use Rattle.stretch.specs.Stretch.{takesBits, withBits, riseRule, fallRule, stretchBy, takingStops, takingGoes, sendingStops, sendingGoes, restingStops, restingGoes, stretchFrom, standStretch, stretchOf}
 use Rattle.stretch.specs.Theorems.{stretch-within}
 use Rattle.stretch.specs.Sampled.{moduleSeen, Sampled, bits-go, sending-goes, rest-goes}
 use Rattle.samples.specs.Loop.{lentFrom, lent-is}
 use Rattle.samples.specs.declared.Fed.{Fed}
-use Rattle.samples.specs.Samples.{noSample, sampleAt, sampledAt, movedOn, fedBy, passedIf, stretchPassed, fedOf}
+use Rattle.samples.specs.Samples.{noSample, sampleAt, sampledAt, movedOn, passedOver, fedBy, fedOf}
 
 -- A phase has its own bits, and a byte that is sent its own place.
 own-bits : (ph : Phase) → withBits ph (bitsOf ph) ≡ ph
@@ -93,13 +94,16 @@ module _ (Along : Module → List ℕ → Module → ℕ → Type 0) (nowhere : 
     ahead-along = along-from (m .config .sspen) refl (m .line .remembered)
 
     passed-if :
-        (t : Bool) → let ahead : Stretch = stretchOf m items in ltb 0 (ahead .length) ≡ t
-        → let r : Fed = passedIf t m ahead in Along m items (r .mssp) (r .length) × (r .length ≤ length items)
-    passed-if true e = (ahead-along (ltb-true 0 _ e), stretch-within m items)
-    passed-if false e = (nowhere m items, omega arith)
+        (t : Bool) → let r : Stretch = stretchOf m items in ltb 0 (r .length) ≡ t
+        → Along m items (cond t (movedOn m r) m) (r .length)
+    passed-if true e = ahead-along (ltb-true 0 _ e)
+    passed-if false e =
+        let k : stretchOf m items .length ≤ 0 = ltb-false 0 (stretchOf m items .length) e in
+        let none : stretchOf m items .length ≡ 0 = omega arith in
+        subst (Along m items m) (sym none) (nowhere m items)
 
     -- Passed over or not.
-    pub passed-along : let r : Fed = stretchPassed m items in Along m items (r .mssp) (r .length) × (r .length ≤ length items)
+    pub passed-along : let r : Stretch = stretchOf m items in Along m items (passedOver m r) (r .length)
     passed-along = passed-if (ltb 0 (stretchOf m items .length)) refl
 
 -- ---- the samples go on from where a stretch leads
@@ -136,17 +140,6 @@ module _ (m : Module) (level : ℕ) (h : level ≤ 3) where
       let on = subst (λ (x : Stretch). 0 < x .length → Onward noSample sampledAt m (level ∷ []) (movedOn m x) (x .length)) (sym e) (ahead-along Feeds feeds-nowhere feeds-walks m (level ∷ [])) l in
       sym (ap (λ (n : ℕ). walked noSample sampledAt (movedOn m r) (drop n (level ∷ []))) once) ∙ sym (on .place) ∙ one-walked
 
--- The two ways through the code.
-module _ (m : Module) (items : List ℕ) {ahead : Stretch} (is : ahead ≡ stretchOf m items) where
-  as-tested : (t : Bool) → ltb 0 (ahead .length) ≡ t → passedIf t m ahead ≡ stretchPassed m items
-  as-tested t e = ap (λ (x : Bool). passedIf x m ahead) (sym e) ∙ ap (λ (x : Stretch). passedIf (ltb 0 (x .length)) m x) is
-
-  pub passed-over : {n : Module} → 0 < ahead .length → n ≡ movedOn m ahead → fedBy n (ahead .length) ≡ stretchPassed m items
-  passed-over h e = ap (λ (x : Module). fedBy x (ahead .length)) e ∙ as-tested true (lt-ltb 0 (ahead .length) h)
-
-  pub passed-none : ahead .length ≤ 0 → fedBy m 0 ≡ stretchPassed m items
-  passed-none h = as-tested false (le-ltb 0 (ahead .length) h)
-
 -- ---- the loop, by what is left of the items
 sample-here : (items : List ℕ) (i : ℕ) → sampleAt items i ≡ true → (i < length items) × (getD items i 0 ≤ 3)
 sample-here items i t =
@@ -158,17 +151,19 @@ passed-some items i (suc k) t f = omega arith
 
 module _ {items : List ℕ} {m₀ : Module} {i : ℕ} {m : Module} (before : Walking noSample sampledAt items m₀ i m) where
   pub stretch-walked :
-      {r : Fed} → r ≡ stretchPassed m (lentFrom i items) → Walking noSample sampledAt items m₀ (i + r .length) (r .mssp)
-  stretch-walked {r} is =
-      let e : r ≡ stretchPassed m (drop i items) = is ∙ ap (λ (xs : List ℕ). stretchPassed m xs) (lent-is i items) in
-      subst (λ (x : Fed). Walking noSample sampledAt items m₀ (i + x .length) (x .mssp)) (sym e)
-      (let k = passed-along Feeds feeds-nowhere feeds-walks m (drop i items) in walk-by before (k .0) (k .1) refl)
+      {st : Stand} {r : Stretch} {n : Module} → st ≡ standOf m → r ≡ standStretch st (lentFrom i items) → n ≡ passedOver m r
+      → Walking noSample sampledAt items m₀ (i + r .length) n
+  stretch-walked {st} {r} {n} stands is over =
+      let e : r ≡ stretchOf m (drop i items) = is ∙ ap₂ standStretch stands (lent-is i items) in
+      subst (Walking noSample sampledAt items m₀ (i + r .length)) (sym over)
+      (subst (λ (x : Stretch). Walking noSample sampledAt items m₀ (i + x .length) (passedOver m x)) (sym e)
+      (walk-by before (passed-along Feeds feeds-nowhere feeds-walks m (drop i items)) (stretch-within m (drop i items)) refl))
 
   -- Where a sample stood and none does any more, the stretch had items.
   pub stretch-moved :
-      {r : Fed} → r ≡ stretchPassed m (lentFrom i items) → sampleAt items i ≡ true → sampleAt items (i + r .length) ≡ false
-      → length items - (i + r .length) < length items - i
-  stretch-moved {r} is t f = let h = sample-here items i t .0 in let k = passed-some items i (r .length) t f in omega arith
+      {st : Stand} {r : Stretch} → st ≡ standOf m → r ≡ standStretch st (lentFrom i items) → sampleAt items i ≡ true
+      → sampleAt items (i + r .length) ≡ false → length items - (i + r .length) < length items - i
+  stretch-moved {r = r} stands is t f = let h = sample-here items i t .0 in let k = passed-some items i (r .length) t f in omega arith
 
   pub sample-stands : sampleAt items i ≡ true → i < length items
   sample-stands t = sample-here items i t .0

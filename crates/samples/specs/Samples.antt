@@ -1,7 +1,7 @@
 -- Samples one after the other, over the module alone (01, "Calls, refusals and their order"): the items of a trace up to the
 -- first that is no sample.
 use Prim.Native.Nat.{ℕ}
-use mathlib.Core.Bool.{Bool, true, false, _&&_}
+use mathlib.Core.Bool.{Bool, cond, _&&_}
 use mathlib.Core.List.{List}
 use lib.Dec.{leb, ltb}
 use lib.ListN.{length, getD}
@@ -11,7 +11,6 @@ use Rattle.mssp.specs.Module.{moduleOf}
 use Rattle.sampling.specs.Rules.{sampled}
 use Rattle.stretch.specs.declared.Stretch.{Stretch}
 use Rattle.stretch.specs.Seen.{lineOf}
-use Rattle.stretch.specs.Stretch.{stretchOf}
 use Rattle.stretch.specs.Walk.{walked, steps}
 use Rattle.samples.specs.declared.Fed.{Fed}
 
@@ -33,12 +32,9 @@ movedOn m ahead = moduleOf (m .config) (m .live) (ahead .phase) (lineOf (ahead .
 abbrev pub fedBy : Module → ℕ → Fed
 fedBy m n = record { mssp = m; length = n }
 
-abbrev pub passedIf : Bool → Module → Stretch → Fed
-passedIf true m ahead = fedBy (movedOn m ahead) (ahead .length)
-passedIf false m ahead = fedBy m 0
-
-abbrev pub stretchPassed : Module → List ℕ → Fed
-stretchPassed m items = let ahead : Stretch = stretchOf m items in passedIf (ltb 0 (ahead .length)) m ahead
+-- Past a stretch, where there is one.
+abbrev pub passedOver : Module → Stretch → Module
+passedOver m ahead = cond (ltb 0 (ahead .length)) (movedOn m ahead) m
 
 abbrev pub fedOf : Module → List ℕ → Fed
 fedOf m items = fedBy (walked noSample sampledAt m items) (steps noSample sampledAt m items)

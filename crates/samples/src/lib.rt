@@ -1,7 +1,7 @@
 // Samples one after the other, over the module alone: a stretch, then the sample that a rule has to see. A handler adds to it
 // what it does between samples.
 ghost use mathlib.Core.Path.{_≡_};
-ghost use Rattle.samples.specs.Samples.{movedOn, stretchPassed, sampleAt, fedOf};
+ghost use Rattle.samples.specs.Samples.{movedOn, passedOver, sampleAt, fedOf};
 use mssp::Module;
 use stretch::Stretch;
 
@@ -24,19 +24,15 @@ fn move_on(m: Module, ahead: Stretch) -> Module
     }
 }
 
-// Over the stretch ahead, where there is one.
-pub fn pass_stretch(m: Module, items: &[u8]) -> Fed
-    ensures { λ r. ⌜ r ≡ stretchPassed m (now (items .entry)) ⌝ }
+// Past a stretch, where there is one.
+pub fn pass_over(m: Module, ahead: Stretch) -> Module
+    ensures { λ r. ⌜ r ≡ passedOver m ahead ⌝ }
 {
-    let ahead = stretch::ahead(m, items);
-    let length = ahead.length;
-    if length > 0 {
-        return Fed {
-            mssp: move_on(m, ahead),
-            length: length,
-        };
+    if ahead.length > 0 {
+        move_on(m, ahead)
+    } else {
+        m
     }
-    Fed { mssp: m, length: 0 }
 }
 
 // Whether an item stands at a place, and is a sample.
@@ -57,9 +53,9 @@ pub fn feed(m: Module, items: &[u8]) -> Fed
     let mut n = m;
     let mut i = 0;
     while is_sample_at(items, i) {
-        let passed = pass_stretch(n, &items[i..]);
-        n = passed.mssp;
-        i += passed.length;
+        let ahead = stretch::ahead(stretch::stand_of(n), &items[i..]);
+        n = pass_over(n, ahead);
+        i += ahead.length;
         if is_sample_at(items, i) {
             let item = items[i];
             n = sampling::sample(n, item / 2 % 2 == 1, item / 1 % 2 == 1);

@@ -2,8 +2,9 @@
 // leaves every other sample to the rules.
 ghost use mathlib.Core.Path.{_≡_};
 ghost use mathlib.Core.List.{[], _∷_};
+ghost use Rattle.mssp.specs.Module.{standOf};
 ghost use Rattle.stretch.specs.Seen.{lineOf, seenOn, ends, takenAt, placeSeen};
-ghost use Rattle.stretch.specs.Stretch.{takingOf, sendingOf, restingOf, stretchAt, takesBits, withBits, riseRule, fallRule, phaseStretch, standStretch, stretchOf, seenIn, isReading, fallEnds, phaseOver};
+ghost use Rattle.stretch.specs.Stretch.{takingOf, sendingOf, restingOf, stretchAt, takesBits, withBits, riseRule, fallRule, phaseStretch, standStretch, seenIn, isReading, fallEnds, phaseOver};
 use mssp::Module;
 use mssp::Phase;
 use mssp::Stand;
@@ -304,16 +305,30 @@ fn is_reading(enabled: bool, remembered: Remembered) -> bool
     }
 }
 
-// The stretch ahead. Disabled, or before any level was seen, there is none.
-pub fn ahead(m: Module, items: &[u8]) -> Stretch
-    ensures { λ r. ⌜ r ≡ stretchOf m (now (items .entry)) ⌝ }
+// What a stretch sees of a module.
+pub fn stand_of(m: Module) -> Stand
+    ensures { λ r. ⌜ r ≡ standOf m ⌝ }
 {
     let phase = m.phase;
     let line = m.line;
+    Stand {
+        phase: phase,
+        line: line,
+        enabled: m.config.sspen,
+        acktim: m.live.acktim,
+    }
+}
+
+// The stretch ahead. Disabled, or before any level was seen, there is none.
+pub fn ahead(s: Stand, items: &[u8]) -> Stretch
+    ensures { λ r. ⌜ r ≡ standStretch s (now (items .entry)) ⌝ }
+{
+    let phase = s.phase;
+    let line = s.line;
     let remembered = line.remembered;
     let w = seen_in(line);
-    if is_reading(m.config.sspen, remembered) {
-        return in_phase(phase, m.live.acktim, w, items);
+    if is_reading(s.enabled, remembered) {
+        return in_phase(phase, s.acktim, w, items);
     }
     ended(phase, w, 0)
 }
