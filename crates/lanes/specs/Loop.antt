@@ -79,7 +79,7 @@ passed-from items i h t bytes =
       stands = p .stands;
     }
 
-module _ {w₀ : Served} {items : List ℕ} {i : ℕ} {t : State} {bytes lanes : List ℕ} {stands : ℕ} (before : Drawing w₀ items i (served t bytes) lanes stands) where
+module _ {w₀ : Served} {items : List ℕ} {i : ℕ} {t : State} {bytes lanes : List ℕ} {stands : ℕ} (before : Underway w₀ items i (served t bytes) lanes stands) where
   passed-so : {r : Stretch} → r ≡ freeStretch (t .mssp) (lentFrom i items) → PassedFrom items i t bytes r
   passed-so {r} is =
       subst (PassedFrom items i t bytes) (sym (is ∙ ap (λ (xs : List ℕ). freeStretch (t .mssp) xs) (lent-is i items)))
@@ -100,7 +100,7 @@ module _ {w₀ : Served} {items : List ℕ} {i : ℕ} {t : State} {bytes lanes :
       → scl ≡ sclHigh (t .mssp .line .remembered) → b ≡ brushIn (t .mssp .phase) scl
       → filled ≡ painted stands b (take (i + r .length - i) (drop i items)) → n ≡ passedOver (t .mssp) r
       → u ≡ stateOf n (t .handler)
-      → Drawing w₀ items (i + r .length) (served u bytes) (splice i (i + r .length - i) filled lanes) stands
+      → Underway w₀ items (i + r .length) (served u bytes) (splice i (i + r .length - i) filled lanes) stands
   stretch-drawn {r} {b = b} {u = u} {filled} is high e f over at =
       let p = passed-so is in
       let v : u ≡ stateOf (passedOver (t .mssp) r) (t .handler) = at ∙ ap (λ (x : Module). stateOf x (t .handler)) over in
@@ -121,7 +121,7 @@ module _ {w₀ : Served} {items : List ℕ} {i : ℕ} {t : State} {bytes lanes :
   -- ---- one item
   pub item-next :
       {v : Served} {st word : ℕ} → i < length items → drawn v st word ≡ drawnItem (served t bytes) (getD items i 0) → st ≤ mostStanding
-      → Drawing w₀ items (i + 1) v (set lanes i word) st
+      → Underway w₀ items (i + 1) v (set lanes i word) st
   unfolding allTaken allWords
   item-next {v} {st} {word} h e m =
       let w : Served = served t bytes in
@@ -154,7 +154,7 @@ taken-length w [] = refl
 taken-length w (item ∷ items) = taken-length (itemTaken w item) items ∙ met-length (isCalled (w .state .mssp .phase) item) w
 
 pub window-stays :
-    {w₀ : Served} {items : List ℕ} {i : ℕ} {w : Served} {lanes : List ℕ} {stands : ℕ} → Drawing w₀ items i w lanes stands → length items ≤ i
+    {w₀ : Served} {items : List ℕ} {i : ℕ} {w : Served} {lanes : List ℕ} {stands : ℕ} → Underway w₀ items i w lanes stands → length items ≤ i
     → length (w .bytes) ≡ length (w₀ .bytes)
 unfolding allTaken
 window-stays {w₀} {items} {i} {w} before h =
