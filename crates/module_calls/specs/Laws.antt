@@ -29,9 +29,8 @@ use Rattle.module_image.specs.ModulePart.{moduleLength, moduleFrom, withModule,
 use Rattle.stretch.specs.declared.Stretch.{Stretch}
 use Rattle.stretch.specs.Seen.{lineOf}
 use Rattle.stretch.specs.Stretch.{standStretch}
-use Rattle.samples.specs.declared.Fed.{Fed}
-use Rattle.samples.specs.Samples.{movedOn, fedOf}
-use Rattle.samples.specs.Laws.{level-fed, level-passed}
+use Rattle.samples.specs.Samples.{sampledAt, movedOn}
+use Rattle.samples.specs.Laws.{level-passed}
 use Rattle.firmware.specs.declared.State.{State}
 use Rattle.firmware.specs.Handler.{stateOf}
 use Rattle.trace.specs.Run.{sampledBy}
@@ -113,10 +112,10 @@ module _ (b : List ℕ) (t : isState b ≡ true) where
         let moved = level-passed m level h (is ∙ ap (λ (x : Stand). standStretch x (level ∷ [])) e) l in
         ap₂ outcome f (g ∙ stand-over b t (r .phase) _ ∙ ap (λ (x : Line). encodeOf (stateOf (moduleOf (m .config) (m .live) (r .phase) x) (parseOf b .handler))) line ∙ with-next (movedOn m r) moved)
 
-    -- The long way: the module is built, fed and written.
+    -- The long way: the module is built, sampled and written.
     pub long-way :
-        {m : Module} {fed : Fed} {r : Answer} {bytes : List ℕ} → level ≤ 3 → m ≡ moduleFrom b → fed ≡ fedOf m (level ∷ [])
-        → bytes ≡ withModule (fed .mssp) b → r ≡ done 0 → Leaves r bytes
+        {m n : Module} {r : Answer} {bytes : List ℕ} → m ≡ moduleFrom b → n ≡ sampledAt m level → bytes ≡ withModule n b → r ≡ done 0
+        → Leaves r bytes
     unfolding parseOf
-    long-way {fed = r} h e is g f =
-        ap₂ outcome f (g ∙ module-over b t (r .mssp) ∙ with-next (r .mssp) (level-fed (moduleFrom b) level h (is ∙ ap (λ (x : Module). fedOf x (level ∷ [])) e)))
+    long-way {n = n} e is g f =
+        ap₂ outcome f (g ∙ module-over b t n ∙ with-next n (is ∙ ap (λ (x : Module). sampledAt x level) e))

@@ -70,8 +70,7 @@ fn move_on(state: &mut [u8], level: u8) -> Answer
         return settling::done(0);
     }
     let m = module_image::module_from(state);
-    let fed = samples::feed(m, &[level]);
-    let next = fed.mssp;
+    let next = sampling::sample(m, level / 2 % 2 == 1, level / 1 % 2 == 1);
     module_image::save(next, state);
     settling::done(0)
 }

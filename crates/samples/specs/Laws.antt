@@ -30,7 +30,6 @@ use Rattle.stretch.specs.Stretch.{takesBits, withBits, riseRule, fallRule, stre
 use Rattle.stretch.specs.Theorems.{stretch-within}
 use Rattle.stretch.specs.Sampled.{moduleSeen, Sampled, bits-go, sending-goes, rest-goes}
 use Rattle.samples.specs.Loop.{lentFrom, lent-is}
-use Rattle.samples.specs.declared.Fed.{Fed}
 use Rattle.samples.specs.Samples.{noSample, sampleAt, sampledAt, movedOn, passedOver, fedBy, fedOf}
 
 -- A phase has its own bits, and a byte that is sent its own place.
@@ -127,9 +126,6 @@ module _ (m : Module) (level : ℕ) (h : level ≤ 3) where
   one-walked : walked noSample sampledAt m (level ∷ []) ≡ sampledAt m level
   unfolding walked
   one-walked = ap (λ (t : Bool). cond t m (sampledAt m level)) (le-ltb 3 level h)
-
-  pub level-fed : {r : Fed} → r ≡ fedOf m (level ∷ []) → r .mssp ≡ sampledAt m level
-  level-fed e = ap (λ (x : Fed). x .mssp) e ∙ one-walked
 
   -- Where the level is a stretch of its own, it leads where the sample does.
   pub level-passed : {r : Stretch} → r ≡ stretchOf m (level ∷ []) → 0 < r .length → movedOn m r ≡ sampledAt m level

@@ -12,8 +12,8 @@ over-a-stretch c =
 
 by-the-rules : tie.Need-returns-2
 by-the-rules c =
-    let start = c .before .before .before .before .before .before .before .before .before .before .before .before .before .before .before .before in
-    long-way (now (start .args .state)) (start .pre .0) (start .args .level) (start .pre .1) (c .before .before .before .before .before .before .before .before .module-from .ensures) (c .before .before .before .before .before .before .feed .ensures) (c .before .before .before .save .ensures) (c .done2 .ensures)
+    let start = c .before .before .before .before .before .before .before .before .before .before .before .before .before .before in
+    long-way (now (start .args .state)) (start .pre .0) (start .args .level) (c .before .before .before .before .before .before .module-from .ensures) (c .before .before .before .before .before .sample .ensures) (c .before .before .before .save .ensures) (c .done2 .ensures)
 
 pub move-on-spec : {M : Type 1} → statement M
 move-on-spec =
@@ -25,7 +25,7 @@ move-on-spec =
     (λ c κs. search needs) (λ c. search needs)
     over-a-stretch
     (λ c κs. long-enough _ (c .before .before .before .before .before .before .before .pre .0))
-    (λ c. search needs) (λ c κs. search needs)
-    (λ c κs. long-enough _ (c .before .before .before .before .before .before .before .before .before .before .before .before .pre .0))
+    (λ c κs. search needs)
+    (λ c κs. long-enough _ (c .before .before .before .before .before .before .before .before .before .before .pre .0))
     (λ c κs. search needs) (λ c. search needs)
     by-the-rules)
