@@ -28,15 +28,16 @@ use Rattle.firmware.specs.Laws.{length-within, within-length}
 use Rattle.trace.specs.Run.{sampledBy}
 use Rattle.trace.specs.Window.{runInOf}
 use Rattle.runkept.specs.States.{ValidHandler, ValidState}
-use Rattle.runkept.specs.Kept.{setup-kept, called-kept, run-in-kept}
+use Rattle.runkept.specs.Kept.{setup-kept, called-kept, run-in-kept, draw-in-kept}
 use Rattle.image.specs.HandlerPart.{handlerValid}
 use Rattle.image.specs.Image.{imageLength, validState, encodeOf, decodeOf}
 use Rattle.image.specs.Theorems.{decode-encode, decode-valid}
-use Rattle.settling.specs.Outcome.{settled, byAccess}
+use Rattle.lanes.specs.Lanes.{drawInOf}
+use Rattle.settling.specs.Outcome.{lent, settled, noState, byAccess}
 use Rattle.settling.specs.Left.{ImageOfSome, Leaves}
-use Rattle.settling.specs.Theorems.{refused-never-accepted, settled-leaves, state-leaves, access-leaves, state-leaves-lent, stays}
-use Rattle.firmware_calls.specs.Calls.{setupIf, doorSetup, settledWork, byWork, doorCall, doorRun}
-use Rattle.firmware_calls.specs.Theorems.{call-keeps, run-keeps}
+use Rattle.settling.specs.Theorems.{by-state, refused-never-accepted, settled-leaves, state-leaves, access-leaves, state-leaves-lent, stays}
+use Rattle.firmware_calls.specs.Calls.{setupIf, doorSetup, settledWork, byWork, doorCall, doorRun, DrawnLent, drawnLent, settledDrawing, doorLanes}
+use Rattle.firmware_calls.specs.Theorems.{call-keeps, run-keeps, draw-keeps}
 use Rattle.module_calls.specs.Calls.{moduleIn, imageWith, doorRead, doorWrite, levelVerdict, doorSample}
 use Rattle.module_calls.specs.Theorems.{read-keeps, write-keeps, sample-keeps}
 
@@ -127,6 +128,14 @@ module _ (bytes : List ℕ) where
       pub run-leaves : (items : List ℕ) → Leaves decodeOf (doorRun bytes buffer start n items .outcome)
       run-leaves items = work-leaves (λ s. runInOf s buffer start n items) (λ s v. run-in-kept s buffer start n items v)
 
+      pub draw-leaves : (items lanes : List ℕ) → Leaves decodeOf (doorLanes bytes buffer start n items lanes .work .outcome)
+      draw-leaves items lanes =
+          by-state (λ (d : DrawnLent). Leaves decodeOf (d .work .outcome)) (decodeOf bytes) (drawnLent (lent (noState bytes) buffer) lanes)
+          (λ s. settledDrawing bytes (drawInOf s buffer start n items lanes)) (refused-never-accepted decodeOf NoState 0 bytes)
+          (λ s e.
+          let o : WindowOutcome = drawInOf s buffer start n items lanes .outcome in
+          settled-leaves decodeOf (o .verdict) (o .item) bytes (image-of (o .state) (draw-in-kept s buffer start n items lanes (given s e))))
+
 -- ---- an image stays an image, whatever is settled
 module _ (bytes : List ℕ) (image : ImageOfSome decodeOf bytes) where
   pub read-stays : (number : ℕ) → ImageOfSome decodeOf (doorRead bytes number .state)
@@ -149,3 +158,8 @@ module _ (bytes : List ℕ) (image : ImageOfSome decodeOf bytes) where
     run-stays items =
         stays decodeOf (doorRun bytes buffer start n items .outcome) (λ h. run-keeps bytes buffer start n items h .0)
         (run-leaves bytes buffer start n items) image
+
+    pub draw-stays : (items lanes : List ℕ) → ImageOfSome decodeOf (doorLanes bytes buffer start n items lanes .work .outcome .state)
+    draw-stays items lanes =
+        stays decodeOf (doorLanes bytes buffer start n items lanes .work .outcome) (λ h. draw-keeps bytes buffer start n items lanes h .0)
+        (draw-leaves bytes buffer start n items lanes) image

@@ -1,13 +1,15 @@
 -- What the handler's calls promise beside their contracts (01, "Calls, refusals and their order"): a refused one leaves the
 -- state's bytes and the buffer's.
-use Prim.Native.Nat.{ℕ}
+use Prim.Native.Nat.{ℕ, _<_}
 use mathlib.Core.Path.{_≡_, refl, sym}
-use mathlib.Core.Bool.{Bool, true, false}
-use mathlib.Core.List.{List}
+use mathlib.Core.Bool.{Bool, true, false, cond}
+use mathlib.Core.List.{List, _++_}
 use native.Mathlib.Omega.{arith}
 use lib.Dec.{eqb, ltb}
-use lib.ListN.{length}
+use lib.ListN.{length, take, drop}
 use Rattle.truth.specs.Tests.{never}
+use Rattle.refusals.specs.declared.Verdict.{Verdict}
+use Rattle.refusals.specs.declared.Verdict.the-variants.{Done, Refused}
 use Rattle.refusals.specs.Numbers.{accepted}
 use Rattle.firmware.specs.declared.State.{State}
 use Rattle.firmware.specs.declared.Made.{Made}
@@ -16,10 +18,11 @@ use Rattle.firmware.specs.Handler.{Served, setupOf}
 use Rattle.firmware.specs.Window.{windowFits, WindowOutcome, callOf, callChoice}
 use Rattle.items.specs.First.{firstAbove}
 use Rattle.trace.specs.Window.{ranIn, checked, judgedOf, runInOf}
+use Rattle.lanes.specs.Lanes.{lanedIn, shorterOf, drawInOf}
 use Rattle.image.specs.Image.{imageLength, encodeOf, decodeOf}
-use Rattle.settling.specs.Outcome.{Keeps, KeepsLent}
-use Rattle.settling.specs.Theorems.{settled-keeps-lent, state-keeps-lent}
-use Rattle.firmware_calls.specs.Calls.{setupIf, doorSetup, settledWork, byWork, doorCall, doorRun}
+use Rattle.settling.specs.Outcome.{lent, settled, noState, Keeps, KeepsLent}
+use Rattle.settling.specs.Theorems.{by-state, settled-keeps-lent, state-keeps-lent}
+use Rattle.firmware_calls.specs.Calls.{setupIf, doorSetup, settledWork, byWork, doorCall, doorRun, DrawnLent, drawnLent, settledDrawing, doorLanes}
 
 setup-if : (fits : Bool) (made : Made) (bytes : List ℕ) → Keeps bytes (setupIf fits made bytes)
 setup-if false made bytes h = refl
@@ -67,3 +70,31 @@ module _ (bytes buffer : List ℕ) where
     run-keeps items =
         work-keeps (λ s. runInOf s buffer start n items)
         (λ s. judged-keeps 4 s buffer start n items (ranIn s buffer start n items))
+
+    -- A refused drawing leaves the buffer, and the lanes too.
+    pub draw-keeps : (items lanes : List ℕ) → KeepsLent bytes buffer (doorLanes bytes buffer start n items lanes .work)
+    draw-keeps items lanes =
+        let part : List ℕ = take (shorterOf (length items) (length lanes)) items in
+        by-state (λ (d : DrawnLent). KeepsLent bytes buffer (d .work)) (decodeOf bytes) (drawnLent (lent (noState bytes) buffer) lanes)
+        (λ s. settledDrawing bytes (drawInOf s buffer start n items lanes)) (λ h. (refl, refl))
+        (λ s e.
+        let o : WindowOutcome = drawInOf s buffer start n items lanes .outcome in
+        settled-keeps-lent bytes buffer (o .verdict) (o .item) (encodeOf (o .state)) (judged-keeps 3 s buffer start n part (lanedIn s buffer start n part .left)))
+
+lanes-if :
+    (v : Verdict) (item : ℕ) (image bytes words lanes : List ℕ) → 0 < settled v item image bytes .answer .refusal
+    → cond (accepted v) words lanes ≡ lanes
+lanes-if (Done value) item image bytes words lanes h = absurd (omega arith)
+lanes-if (Refused why) item image bytes words lanes h = refl
+
+pub lanes-keep :
+    (bytes buffer : List ℕ) (start n : ℕ) (items lanes : List ℕ) → let d : DrawnLent = doorLanes bytes buffer start n items lanes in
+    0 < d .work .outcome .answer .refusal → d .lanes ≡ lanes
+lanes-keep bytes buffer start n items lanes =
+    by-state (λ (d : DrawnLent). 0 < d .work .outcome .answer .refusal → d .lanes ≡ lanes) (decodeOf bytes)
+    (drawnLent (lent (noState bytes) buffer) lanes) (λ s. settledDrawing bytes (drawInOf s buffer start n items lanes)) (λ h. refl)
+    (λ s e h.
+    let part : List ℕ = take (shorterOf (length items) (length lanes)) items in
+    let words : List ℕ = lanedIn s buffer start n part .lanes in
+    let o : WindowOutcome = drawInOf s buffer start n items lanes .outcome in
+    lanes-if (o .verdict) (o .item) (encodeOf (o .state)) bytes (words ++ drop (length words) lanes) lanes h)

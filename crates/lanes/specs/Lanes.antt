@@ -15,7 +15,7 @@ use Rattle.firmware.specs.declared.State.{State}
 use Rattle.firmware.specs.Handler.{Served, served}
 use Rattle.firmware.specs.Window.{windowOf, inBuffer, WindowOutcome}
 use Rattle.trace.specs.Window.{judgedOf}
-use Rattle.words.specs.Words.{itemTaken, wordAt}
+use Rattle.words.specs.Words.{isCalled, itemTaken, wordAt}
 
 -- What the items leave, each on what the one before it left; and their words.
 unfoldable pub allTaken : Served → List ℕ → Served
@@ -25,6 +25,12 @@ allTaken w (item ∷ items) = allTaken (itemTaken w item) items
 unfoldable pub allWords : Served → List ℕ → List ℕ
 allWords w [] = []
 allWords w (item ∷ items) = wordAt w item ∷ allWords (itemTaken w item) items
+
+-- The record as a trace: a handler call, 4, before each item at which the handler is called.
+unfoldable pub driven : Served → List ℕ → List ℕ
+driven w [] = []
+driven w (item ∷ items) =
+    let rest : List ℕ = item ∷ driven (itemTaken w item) items in cond (isCalled (w .state .mssp .phase) item) (4 ∷ rest) rest
 
 -- All that drawing decides: what is left, and every word.
 pub record Laned : Type 0 where

@@ -5,3 +5,4 @@ pub mod Painting
 pub mod Drawing
 pub mod Loop
 pub mod Laws
+pub mod Theorems
