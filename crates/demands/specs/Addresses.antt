@@ -58,7 +58,9 @@ use Rattle.view.specs.View.{whichSeen, viewOf, nextSeen}
 use Rattle.settling.specs.declared.Answer.{Answer}
 use Rattle.settling.specs.Outcome.{byState}
 use Rattle.module_calls.specs.Calls.{doorLook, doorHit}
-use Rattle.demands.specs.Calls.{shownCON1, HasTenBits, AgreesIn, Fits, TakenAsSaid, feedSample, Host, atDoor, byDefinition, ImageOf, DoorCall, setUp, readRegister, writeRegister, callHandler, runTrace, hasWindow, inWindow, CanEndTheHold, FollowsAsShown, Matches, EndsAs}
+use Rattle.lanes.specs.Lanes.{driven}
+use Rattle.items.specs.First.{firstAbove}
+use Rattle.demands.specs.Calls.{shownCON1, HasTenBits, AgreesIn, Fits, TakenAsSaid, feedSample, Host, atDoor, byDefinition, ImageOf, DoorCall, setUp, readRegister, writeRegister, callHandler, runTrace, hasWindow, inWindow, CanEndTheHold, FollowsAsShown, Matches, EndsAs, drawLanes, drawnLevels}
 use Rattle.demands.specs.Demands.{HitSays, TakesWhatHits, UAInTheHold, HeldUntilADD, EndedByADD, AcknowledgesTenBits, NinthFallOfTenBits, SevenBitsAlone}
 use Rattle.demands.specs.DemandTwo.{look-is, hit-is, image-or-none, demand-two, shown-is}
 use Rattle.demands.specs.DemandOne.{both, is-one, equal, shown-ten, by-register}
@@ -358,6 +360,9 @@ module _ (next : Next) where
   call-waits w (callHandler start n) other e = window-waits w start n (4 ∷ []) (hasWindow w start n) false 0 e
   call-waits w (runTrace start n items) other e =
       window-waits w start n items (hasWindow w start n) (ltb (firstBad items) (length items)) (firstBad items) e
+  call-waits w (drawLanes start n levels lanes) other e =
+      let part : List ℕ = drawnLevels levels lanes in
+      window-waits w start n (driven (served (w .state) (windowOf start n (w .bytes))) part) (hasWindow w start n) (ltb (firstAbove 3 part) (length part)) (firstAbove 3 part) e
 
 -- What look showed and shows of it.
 module _ (s : State) (h : Host) (image : ImageOf s (h .state)) (p : doorLook (h .state) .phase ≡ 8) where

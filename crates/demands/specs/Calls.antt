@@ -6,8 +6,8 @@ use mathlib.Core.Path.{_≡_}
 use mathlib.Core.Bool.{Bool, true, false, cond}
 use mathlib.Core.List.{List, [], _∷_, _++_, map}
 use lib.Dec.{T, ltb}
-use lib.ListN.{length, getD}
-use Rattle.items.specs.First.{FirstAbove, NoneAbove}
+use lib.ListN.{length, take, getD}
+use Rattle.items.specs.First.{firstAbove, FirstAbove, NoneAbove}
 use Rattle.refusals.specs.declared.Refusal.{Refusal}
 use Rattle.refusals.specs.declared.Refusal.the-variants.{NoState, NoRegister, ReservedBit, NoMode, ModeChange, MaskedTenBits, NoWindow, NoItem, PastRecord}
 use Rattle.refusals.specs.declared.Verdict.{Verdict}
@@ -23,16 +23,17 @@ use Rattle.firmware.specs.declared.State.{State}
 use Rattle.firmware.specs.declared.Made.{Made}
 use Rattle.firmware.specs.declared.Made.the-variants.{Ready, NotMade}
 use Rattle.firmware.specs.Handler.{longestWindow, Served, served, setupOf}
-use Rattle.firmware.specs.Window.{windowFits, inBuffer}
+use Rattle.firmware.specs.Window.{windowFits, windowOf, inBuffer}
 use Rattle.steps.specs.declared.Item.{Item}
 use Rattle.steps.specs.declared.Item.the-variants.{Call, Read, Write}
 use Rattle.steps.specs.Step.{Stepped, stepOf, afterAll}
 use Rattle.trace.specs.Run.{firstBad, itemIf, itemAt}
+use Rattle.lanes.specs.Lanes.{driven, shorterOf}
 use Rattle.image.specs.Image.{imageLength, validState, encodeOf}
 use Rattle.view.specs.declared.View.{View}
 use Rattle.settling.specs.declared.Answer.{Answer}
 use Rattle.settling.specs.Outcome.{Lent, outcome, lent, done, refused}
-use Rattle.firmware_calls.specs.Calls.{doorSetup, doorCall, doorRun}
+use Rattle.firmware_calls.specs.Calls.{doorSetup, doorCall, doorRun, doorLanes}
 use Rattle.module_calls.specs.Calls.{doorRead, doorWrite, doorSample, doorLook}
 
 -- ---- a host's calls, over the bytes of one state and one buffer
@@ -43,6 +44,11 @@ pub data DoorCall : Type 0 where
   feedSample : (level : ℕ) → DoorCall
   callHandler : (start n : ℕ) → DoorCall
   runTrace : (start n : ℕ) (items : List ℕ) → DoorCall
+  drawLanes : (start n : ℕ) (levels lanes : List ℕ) → DoorCall
+
+-- The levels that a drawing takes: as many as the shorter of record and lanes has.
+abbrev pub drawnLevels : List ℕ → List ℕ → List ℕ
+drawnLevels levels lanes = take (shorterOf (length levels) (length lanes)) levels
 
 -- What a host lends.
 pub record Host : Type 0 where
@@ -69,7 +75,8 @@ abbrev pub leftAfter : {W : Type 0} → (W → DoorCall → Reply W) → W → L
 leftAfter work w [] = w
 leftAfter work w (c ∷ calls) = leftAfter work (work w c .left) calls
 
--- ---- at the door: what the contract of each exported function says; only a handler call and a run are lent the buffer
+-- ---- at the door: what the contract of each exported function says; only a handler call, a run and a drawing are lent the buffer. Of
+-- a drawing this is the answer's refusal and item, the state and the buffer; its lanes stand in `doorDraw`.
 abbrev pub contract : Host → DoorCall → Lent
 contract h (setUp add n) = lent (doorSetup (h .state) add n) (h .buffer)
 contract h (readRegister number) = lent (doorRead (h .state) number) (h .buffer)
@@ -77,6 +84,7 @@ contract h (writeRegister number value) = lent (doorWrite (h .state) number valu
 contract h (feedSample level) = lent (doorSample (h .state) level) (h .buffer)
 contract h (callHandler start n) = doorCall (h .state) (h .buffer) start n
 contract h (runTrace start n items) = doorRun (h .state) (h .buffer) start n items
+contract h (drawLanes start n levels lanes) = doorLanes (h .state) (h .buffer) start n levels lanes .work
 
 -- What a call's contract allows it to answer and leave.
 abbrev pub Allows : Host → DoorCall → Answer → Host → Type 0
@@ -120,6 +128,10 @@ byDefinition w (feedSample level) = stepBy w (itemIf (ltb level 4) false level)
 byDefinition w (callHandler start n) = inWindow (hasWindow w start n) false 0 w start n (Call ∷ [])
 byDefinition w (runTrace start n items) =
     inWindow (hasWindow w start n) (ltb (firstBad items) (length items)) (firstBad items) w start n (map itemAt items)
+byDefinition w (drawLanes start n levels lanes) =
+    let part : List ℕ = drawnLevels levels lanes in
+    inWindow (hasWindow w start n) (ltb (firstAbove 3 part) (length part)) (firstAbove 3 part) w start n
+    (map itemAt (driven (served (w .state) (windowOf start n (w .bytes))) part))
 
 -- ---- the image of a state, and bytes that are no state's
 abbrev pub ImageOf : State → List ℕ → Type 0
@@ -191,6 +203,8 @@ causes h (feedSample level) = (NoState when ImageOfNone (h .state)) ∷ (NoItem 
 causes h (callHandler start n) = (NoState when ImageOfNone (h .state)) ∷ (NoWindow when FitsNot h start n) ∷ []
 causes h (runTrace start n items) =
     (NoState when ImageOfNone (h .state)) ∷ (NoWindow when FitsNot h start n) ∷ (NoItem when SomeAbove 4 items) ∷ []
+causes h (drawLanes start n levels lanes) =
+    (NoState when ImageOfNone (h .state)) ∷ (NoWindow when FitsNot h start n) ∷ (NoItem when SomeAbove 3 (drawnLevels levels lanes)) ∷ []
 
 -- Why a look, and a question which address hits, is refused.
 abbrev pub lookCauses : List ℕ → List Cause
@@ -220,6 +234,7 @@ Beside (writeRegister number value) item = item ≡ 0
 Beside (feedSample level) item = item ≡ 0
 Beside (callHandler start n) item = item ≡ 0
 Beside (runTrace start n items) item = FirstAbove 4 items item
+Beside (drawLanes start n levels lanes) item = FirstAbove 3 (drawnLevels levels lanes) item
 
 -- ---- a module that runs on
 -- SSPEN is 1 before every call of a list and after the last, and none of them sets up anew.
@@ -254,6 +269,7 @@ CanEndTheHold (writeRegister number value) = (number ≡ 5) ⊎ ((number ≡ 2) 
 CanEndTheHold (feedSample level) = ⊥
 CanEndTheHold (callHandler start n) = ⊥
 CanEndTheHold (runTrace start n items) = ⊥
+CanEndTheHold (drawLanes start n levels lanes) = ⊥
 
 -- What follows the hold: quiet (0), a low byte (1, which 2) or data (2), each without bits and with a free clock.
 abbrev pub FollowsAsShown : ℕ → View → Type 0

@@ -53,14 +53,15 @@ use Rattle.settling.specs.declared.Answer.{Answer}
 use Rattle.settling.specs.Outcome.{done, refused, byState}
 use Rattle.settling.specs.Theorems.{one-lent, by-state}
 use Rattle.firmware_calls.specs.Calls.{setupIf}
-use Rattle.firmware_calls.specs.Theorems.{setup-keeps, call-keeps, run-keeps}
+use Rattle.firmware_calls.specs.Theorems.{setup-keeps, call-keeps, run-keeps, draw-keeps, lanes-keep}
 use Rattle.module_calls.specs.Calls.{levelVerdict, doorHit}
 use Rattle.module_calls.specs.Theorems.{read-keeps, write-keeps, sample-keeps}
 use Rattle.door.specs.declared.Part.{Part as Parted}
 use Rattle.door.specs.Door.{doorFind}
-use Rattle.demands.specs.Calls.{DoorCall, setUp, readRegister, writeRegister, feedSample, callHandler, runTrace, Host, host, reply, atDoor, told, inWindow, hasWindow, byDefinition, ImageOf, ImageOfNone, shownCON1, SetsReserved, HasTenBits, SetsNoMode, ChangesMode, MasksTenBits, SetUpFor, FitsNot, SomeAbove, Cause, _when_, causes, lookCauses, findCauses, Numbered, OnlyBeside, Beside}
+use Rattle.lanes.specs.Lanes.{driven, shorterOf}
+use Rattle.demands.specs.Calls.{DoorCall, setUp, readRegister, writeRegister, feedSample, callHandler, runTrace, Host, host, reply, atDoor, told, inWindow, hasWindow, byDefinition, ImageOf, ImageOfNone, shownCON1, SetsReserved, HasTenBits, SetsNoMode, ChangesMode, MasksTenBits, SetUpFor, FitsNot, SomeAbove, Cause, _when_, causes, lookCauses, findCauses, Numbered, OnlyBeside, Beside, drawLanes, drawnLevels}
 use Rattle.demands.specs.Demands.{OneOutcome, RefusedKeeps, OutsideKept, ExactCauses, ItemBeside, DemandOne}
-use Rattle.demands.specs.DemandTwo.{image-or-none, by-image, look-is, shown-is}
+use Rattle.demands.specs.DemandTwo.{image-or-none, by-image, draw-six, look-is, shown-is}
 
 pub one-reply : OneOutcome
 one-reply before c r t a b e f = let one = one-lent e f in (one .0, ap₂ host (one .1) (one .2))
@@ -73,6 +74,7 @@ keeps h (writeRegister number value) l = ap (λ (b : List ℕ). host b (h .buffe
 keeps h (feedSample level) l = ap (λ (b : List ℕ). host b (h .buffer)) (sample-keeps (h .state) level l)
 keeps h (callHandler start n) l = let k = call-keeps (h .state) (h .buffer) start n l in ap₂ host (k .0) (k .1)
 keeps h (runTrace start n items) l = let k = run-keeps (h .state) (h .buffer) start n items l in ap₂ host (k .0) (k .1)
+keeps h (drawLanes start n levels lanes) l = let k = draw-keeps (h .state) (h .buffer) start n levels lanes l in ap₂ host (k .0) (k .1)
 
 empty-part : (found : Found) → 0 < refusalOf found → (startOf found ≡ 0) × (lengthOf found ≡ 0)
 empty-part (Part start count) l = absurd (omega arith)
@@ -83,11 +85,15 @@ by-hit :
     (P : Answer → Type 0) (bytes : List ℕ) (byte : ℕ) → P (refused NoState 0) → ((hit : Hit) → P (done (hitNumber hit))) → P (doorHit bytes byte)
 by-hit P bytes byte p q = by-state P (decodeOf bytes) (refused NoState 0) _ p (λ s e. q (hitOf (s .mssp .config) byte))
 
+none-taken : (refusal count : ℕ) → 0 < refusal → cond (eqb refusal 0) count 0 ≡ 0
+none-taken refusal count l = rw (ne-eqb refusal 0 (λ e. omega arith))
+
 pub refused-keeps : RefusedKeeps
 refused-keeps = (
   keeps,
   λ levels item. empty-part (spanOf levels item),
   λ bytes byte. by-hit (λ a. 0 < a .refusal → a .value ≡ 0) bytes byte (λ l. refl) (λ hit l. absurd (omega arith)),
+  λ h start n levels lanes l. (lanes-keep (h .state) (h .buffer) start n levels lanes l, none-taken (atDoor h (drawLanes start n levels lanes) .answer .refusal) (shorterOf (length levels) (length lanes)) l),
 )
 
 -- ---- outside the window
@@ -104,7 +110,7 @@ outside-if w start n trace true false item e =
 
 pub outside-the-window : OutsideKept
 unfolding byState
-outside-the-window h start n items = (
+outside-the-window h start n items levels lanes = (
   by-image h (callHandler start n) (λ e. rw e) (λ r. SameOutside start n (h .buffer) (r .left .buffer))
       (λ nobody. record { below = refl; above = refl })
       (λ s image. let w : Served = served s (h .buffer) in outside-if w start n (4 ∷ []) (hasWindow w start n) false 0 refl),
@@ -113,6 +119,12 @@ outside-the-window h start n items = (
       (λ s image.
       let w : Served = served s (h .buffer) in
       outside-if w start n items (hasWindow w start n) (ltb (firstBad items) (length items)) (firstBad items) refl),
+  by-image h (drawLanes start n levels lanes) (draw-six h start n levels lanes) (λ r. SameOutside start n (h .buffer) (r .left .buffer))
+      (λ nobody. record { below = refl; above = refl })
+      (λ s image.
+      let w : Served = served s (h .buffer) in
+      let part : List ℕ = drawnLevels levels lanes in
+      outside-if w start n (driven (served s (windowOf start n (h .buffer))) part) (hasWindow w start n) (ltb (firstAbove 3 part) (length part)) (firstAbove 3 part) refl),
 )
 
 -- ---- a refusal's number and the item beside it, by the first cause of a list that holds
@@ -401,6 +413,13 @@ module _ (h : Host) where
       let w : Served = served s (h .buffer) in
       let bad : Bool = ltb (firstBad items) (length items) in
       window-looks w start n (firstBad items) (map itemAt items) (hasWindow w start n) bad (fits-not h start n s image) (above-looks 4 items bad refl (λ no. none)))
+  looked (drawLanes start n levels lanes) =
+      on-image (drawLanes start n levels lanes) (draw-six h start n levels lanes)
+      (λ s image.
+      let w : Served = served s (h .buffer) in
+      let part : List ℕ = drawnLevels levels lanes in
+      let bad : Bool = ltb (firstAbove 3 part) (length part) in
+      window-looks w start n (firstAbove 3 part) (map itemAt (driven (served s (windowOf start n (h .buffer))) part)) (hasWindow w start n) bad (fits-not h start n s image) (above-looks 3 part bad refl (λ no. none)))
 
 -- A look and a hit: 6 where there is no state, else nothing is refused.
 look-looks :

@@ -100,33 +100,33 @@ splice-own : (start n : ℕ) (buffer : List ℕ) → splice start n (windowOf st
 splice-own start n buffer = rw (take-append-drop n (drop start buffer), take-append-drop start buffer)
 
 -- What no sample and no handler call changes: the handler's n, and SSPM
-abbrev pub standing : State → ℕ × ℕ
-standing s = (s .handler .n, sspmOf (s .mssp .config))
+abbrev pub unmoved : State → ℕ × ℕ
+unmoved s = (s .handler .n, sspmOf (s .mssp .config))
 
 seen-stands : (on : Bool) (m : Module) (scl sda : Bool) → seenIf on m scl sda .config ≡ m .config
 seen-stands true m scl sda = refl
 seen-stands false m scl sda = refl
 
-serve-stands : (sends da : Bool) (s : State) (bytes : List ℕ) → standing (serve sends da s bytes .state) ≡ standing s
+serve-stands : (sends da : Bool) (s : State) (bytes : List ℕ) → unmoved (serve sends da s bytes .state) ≡ unmoved s
 serve-stands true da s bytes =
     let m = s .mssp in
     rw (by-choice (λ (n : Module). n .config ≡ m .config) (m .live .da) {a = m} {b = emptied m} (λ e. refl) (λ e. refl))
 serve-stands false true s bytes = refl
 serve-stands false false s bytes = refl
 
-called-stands : (flag ckp : Bool) (s : State) (bytes : List ℕ) → standing (calledIf flag ckp s bytes .state) ≡ standing s
+called-stands : (flag ckp : Bool) (s : State) (bytes : List ℕ) → unmoved (calledIf flag ckp s bytes .state) ≡ unmoved s
 called-stands false ckp s bytes = refl
 called-stands true true s bytes = refl
 called-stands true false s bytes = serve-stands (s .mssp .live .rw) (s .mssp .live .da) (acknowledged s) bytes
 
-pub step-stands : (level call : Bool) (s : State) (bytes : List ℕ) (item : ℕ) → standing (byteStepIf level call s bytes item .state) ≡ standing s
+pub step-stands : (level call : Bool) (s : State) (bytes : List ℕ) (item : ℕ) → unmoved (byteStepIf level call s bytes item .state) ≡ unmoved s
 step-stands true call s bytes item =
     let m = s .mssp in
     rw (seen-stands (m .config .sspen) m (onWire (sclPulled (m .phase)) (sclOf item)) (onWire (sdaPulled (m .phase)) (sdaOf item)))
 step-stands false true s bytes item = called-stands (s .mssp .live .sspif) (s .mssp .live .ckp) s bytes
 step-stands false false s bytes item = refl
 
-pub run-stands : (s : State) (bytes items : List ℕ) → standing (runOf s bytes items .state) ≡ standing s
+pub run-stands : (s : State) (bytes items : List ℕ) → unmoved (runOf s bytes items .state) ≡ unmoved s
 unfolding afterAll
 run-stands s bytes [] = refl
 run-stands s bytes (x ∷ xs) =

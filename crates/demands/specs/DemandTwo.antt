@@ -28,11 +28,16 @@ use Rattle.firmware.specs.declared.State.{State}
 use Rattle.firmware.specs.declared.Made.{Made}
 use Rattle.firmware.specs.declared.Made.the-variants.{Ready, NotMade}
 use Rattle.firmware.specs.Handler.{Served, served, stateOf, setupOf}
-use Rattle.firmware.specs.Window.{windowFits, callOf, callChoice}
+use Rattle.firmware.specs.Window.{windowFits, windowOf, splice, inBuffer, callOf, callChoice}
 use Rattle.steps.specs.declared.Item.the-variants.{Call}
 use Rattle.steps.specs.Step.{afterAll}
 use Rattle.trace.specs.Run.{firstBad, sampledBy, itemAt}
-use Rattle.trace.specs.Window.{runInOf, runChoice}
+use Rattle.trace.specs.Window.{ranIn, checked, runInOf}
+use Rattle.lanes.specs.Lanes.{lanedIn, driven, drawInOf}
+use Rattle.lanes.specs.Theorems.{taken-is-run}
+use Rattle.items.specs.First.{firstAbove}
+use Rattle.items.specs.Theorems.{none-above}
+use Rattle.steps.specs.declared.Item.{Item}
 use Rattle.image.specs.Image.{imageLength, validState, encodeOf, decodeOf}
 use Rattle.image.specs.Laws.{encode-length}
 use Rattle.image.specs.Theorems.{decode-encode, decode-exactly, encode-injective}
@@ -42,11 +47,11 @@ use Rattle.settling.specs.declared.Answer.{Answer}
 use Rattle.settling.specs.Outcome.{Outcome, Lent, lent, done, refused, settled, settledAccess, noState, byState, byAccess}
 use Rattle.settling.specs.Left.{ImageOfSome}
 use Rattle.settling.specs.Theorems.{stays}
-use Rattle.firmware_calls.specs.Calls.{setupIf, doorSetup, settledWork}
+use Rattle.firmware_calls.specs.Calls.{setupIf, doorSetup, settledWork, DrawnLent, drawnLent, settledDrawing}
 use Rattle.firmware_calls.specs.Theorems.{setup-keeps}
 use Rattle.module_calls.specs.Calls.{moduleIn, imageWith, levelVerdict, doorLook, doorHit}
-use Rattle.doorkept.specs.Image.{setup-leaves, read-stays, write-stays, sample-stays, call-stays, run-stays}
-use Rattle.demands.specs.Calls.{DoorCall, setUp, readRegister, writeRegister, feedSample, callHandler, runTrace, Host, host, Reply, reply, answers, leftAfter, atDoor, told, inWindow, madeOf, byDefinition, ImageOf, ImageOfNone, shownCON1}
+use Rattle.doorkept.specs.Image.{setup-leaves, read-stays, write-stays, sample-stays, call-stays, run-stays, draw-stays}
+use Rattle.demands.specs.Calls.{DoorCall, setUp, readRegister, writeRegister, feedSample, callHandler, runTrace, drawLanes, drawnLevels, Host, host, Reply, reply, answers, leftAfter, atDoor, told, inWindow, hasWindow, madeOf, byDefinition, ImageOf, ImageOfNone, shownCON1}
 use Rattle.demands.specs.Demands.{DemandTwo}
 
 -- What a host holds of a state and its buffer, and what it is answered and left of them.
@@ -132,12 +137,24 @@ module _ (w : Served) where
     called-if true = refl
     called-if false = refl
 
-    ran-if :
-        (items : List ℕ) (fits bad : Bool)
-        → lends (settledWork bytes (runChoice fits bad s (w .bytes) start n items)) ≡ imageReply (inWindow fits bad (firstBad items) w start n (map itemAt items))
-    ran-if items false bad = refl
-    ran-if items true true = refl
-    ran-if items true false = refl
+    -- Work that is judged first, where what it leaves is what its items leave.
+    judged-if :
+        (fits bad : Bool) (item : ℕ) (left : Served) (items : List Item)
+        → (bad ≡ false → left ≡ inBuffer (λ window. afterAll (served s window) items) (w .bytes) start n)
+        → lends (settledWork bytes (checked fits bad item s (w .bytes) left)) ≡ imageReply (inWindow fits bad item w start n items)
+    judged-if false bad item left items same = refl
+    judged-if true true item left items same = refl
+    judged-if true false item left items same = ap (λ (x : Served). imageReply (reply (done 0) x)) (same refl)
+
+    -- A drawing's levels leave what the trace does that they are driven by.
+    drawn-same :
+        (part : List ℕ) → ltb (firstAbove 3 part) (length part) ≡ false
+        → lanedIn s (w .bytes) start n part .left
+        ≡ inBuffer (λ window. afterAll (served s window) (map itemAt (driven (served s (windowOf start n (w .bytes))) part))) (w .bytes) start n
+    drawn-same part e =
+        let window : List ℕ = windowOf start n (w .bytes) in
+        ap (λ (x : Served). served (x .state) (splice start n (x .bytes) (w .bytes)))
+        (taken-is-run (served s window) part (none-above 3 part (ltb-false (firstAbove 3 part) (length part) e)))
 
   module _ (v : T (validState s)) where
     accesses :
@@ -163,7 +180,12 @@ module _ (w : Served) where
         ∙ called-if start n (windowFits (length (w .bytes)) start n (s .handler .n))
     one-call (runTrace start n items) =
         ap lends (on-state (lent (noState bytes) (w .bytes)) (λ t. settledWork bytes (runInOf t (w .bytes) start n items)) s v)
-        ∙ ran-if start n items (windowFits (length (w .bytes)) start n (s .handler .n)) (ltb (firstBad items) (length items))
+        ∙ judged-if start n (hasWindow w start n) (ltb (firstBad items) (length items)) (firstBad items) (ranIn s (w .bytes) start n items) (map itemAt items) (λ e. refl)
+    one-call (drawLanes start n levels lanes) =
+        let part : List ℕ = drawnLevels levels lanes in
+        ap (λ (d : DrawnLent). lends (d .work)) (on-state (drawnLent (lent (noState bytes) (w .bytes)) lanes) (λ t. settledDrawing bytes (drawInOf t (w .bytes) start n levels lanes)) s v)
+        ∙ judged-if start n (hasWindow w start n) (ltb (firstAbove 3 part) (length part)) (firstAbove 3 part) (lanedIn s (w .bytes) start n part .left)
+        (map itemAt (driven (served s (windowOf start n (w .bytes))) part)) (drawn-same start n part)
 
 -- Bytes are no state's image, or that of one.
 pub image-or-none :
@@ -187,6 +209,16 @@ by-image h c six P p q =
     (subst P (sym (one-call w (k .2 .1) c)) (q (k .0) (k .2))))
     (image-or-none (h .state))
 
+-- A drawing answers 6 where there is no state.
+pub draw-six :
+    (h : Host) (start n : ℕ) (levels lanes : List ℕ) → decodeOf (h .state) ≡ none → atDoor h (drawLanes start n levels lanes) ≡ reply (refused NoState 0) h
+unfolding byState
+draw-six h start n levels lanes e =
+    ap
+    (λ (found : Option State).
+    let o : Lent = byState found (drawnLent (lent (noState (h .state)) (h .buffer)) lanes) (λ s. settledDrawing (h .state) (drawInOf s (h .buffer) start n levels lanes)) .work in
+    reply (o .outcome .answer) (host (o .outcome .state) (o .buffer))) e
+
 -- ---- an image stays an image, so the next state is one
 image-stays : (h : Host) (c : DoorCall) → ImageOfSome decodeOf (h .state) → ImageOfSome decodeOf (atDoor h c .left .state)
 image-stays h (setUp add n) image =
@@ -196,6 +228,7 @@ image-stays h (writeRegister number value) image = write-stays (h .state) image 
 image-stays h (feedSample level) image = sample-stays (h .state) image level
 image-stays h (callHandler start n) image = call-stays (h .state) image (h .buffer) start n
 image-stays h (runTrace start n items) image = run-stays (h .state) image (h .buffer) start n items
+image-stays h (drawLanes start n levels lanes) image = draw-stays (h .state) image (h .buffer) start n levels lanes
 
 next-valid : (w : Served) (c : DoorCall) → T (validState (w .state)) → T (validState (byDefinition w c .left .state))
 next-valid w c v =

@@ -1,4 +1,4 @@
--- The demands, said of the functions that C calls: wherryoar_setup, read, write, sample, call and run, look, hit and find.
+-- The demands, said of the functions that C calls: wherryoar_setup, read, write, sample, call, run and draw, look, hit and find.
 -- Statements alone: their words are in Calls.antt, their proofs in the other files.
 use Prim.Native.Nat.{ℕ, _+_, _%_, _<_, _≤_}
 use mathlib.Core.Logic.{_⊎_, _↔_}
@@ -24,31 +24,34 @@ use Rattle.settling.specs.declared.Answer.{Answer}
 use Rattle.settling.specs.Outcome.{done}
 use Rattle.module_calls.specs.Calls.{doorLook, doorHit}
 use Rattle.door.specs.declared.Part.{Part}
-use Rattle.door.specs.Door.{doorFind}
-use Rattle.demands.specs.Calls.{DoorCall, setUp, readRegister, writeRegister, feedSample, callHandler, runTrace, Host, answers, leftAfter, Allows, atDoor, byDefinition, ImageOf, shownCON1, HasTenBits, causes, lookCauses, findCauses, Exactly, OnlyBeside, Beside, StaysEnabled, Fits, TakenAsSaid, CanEndTheHold, FollowsAsShown, Matches, EndsAs, AllItems, Feeds, ShowsNoneRefused, firmware}
+use Rattle.door.specs.Door.{doorFind, Drawn, doorDraw}
+use Rattle.demands.specs.Calls.{DoorCall, setUp, readRegister, writeRegister, feedSample, callHandler, runTrace, drawLanes, Host, answers, leftAfter, Allows, atDoor, byDefinition, ImageOf, shownCON1, HasTenBits, causes, lookCauses, findCauses, Exactly, OnlyBeside, Beside, StaysEnabled, Fits, TakenAsSaid, CanEndTheHold, FollowsAsShown, Matches, EndsAs, AllItems, Feeds, ShowsNoneRefused, firmware}
 
 -- ---- DEMAND 1: every call has one outcome, changes only what it may, and refuses by number, exactly for the causes of the table
 -- Only one answer fits a call's contract, with one state and one buffer. (What look, hit and find answer is an equation as it
--- stands, and they are lent nothing to change.)
+-- stands, and they are lent nothing to change; what draw answers and leaves, the lanes too, is one equation: `doorDraw`.)
 abbrev pub OneOutcome : Type 0
 OneOutcome =
     (before : Host) (c : DoorCall) (r t : Answer) (a b : Host) → Allows before c r a → Allows before c t b → (r ≡ t) × (a ≡ b)
 
--- A refused call changes no byte of state or buffer, a refused search hands back the empty part at 0, and a refused question
--- which address hits the value 0.
+-- A refused call changes no byte of state or buffer, a refused search hands back the empty part at 0, a refused question which
+-- address hits the value 0, and a refused drawing leaves the lanes and has taken nothing.
 abbrev pub RefusedKeeps : Type 0
 RefusedKeeps =
     ((h : Host) (c : DoorCall) → 0 < atDoor h c .answer .refusal → atDoor h c .left ≡ h)
     × ((levels : List ℕ) (item : ℕ) → let part : Part = doorFind levels item in
     0 < part .refusal → (part .start ≡ 0) × (part .length ≡ 0))
     × ((bytes : List ℕ) (byte : ℕ) → 0 < doorHit bytes byte .refusal → doorHit bytes byte .value ≡ 0)
+    × ((h : Host) (start n : ℕ) (levels lanes : List ℕ) → let d : Drawn = doorDraw (h .state) (h .buffer) start n levels lanes in
+    0 < d .taken .refusal → (d .lanes ≡ lanes) × (d .taken .samples ≡ 0))
 
--- A handler call and a run change no byte outside their window.
+-- A handler call, a run and a drawing change no byte outside their window.
 abbrev pub OutsideKept : Type 0
 OutsideKept =
-    (h : Host) (start n : ℕ) (items : List ℕ)
+    (h : Host) (start n : ℕ) (items levels lanes : List ℕ)
     → SameOutside start n (h .buffer) (atDoor h (callHandler start n) .left .buffer)
     × SameOutside start n (h .buffer) (atDoor h (runTrace start n items) .left .buffer)
+    × SameOutside start n (h .buffer) (atDoor h (drawLanes start n levels lanes) .left .buffer)
 
 -- Every refusal number is answered exactly for its cause, where none that is looked at before it holds.
 abbrev pub ExactCauses : Type 0
@@ -58,7 +61,7 @@ ExactCauses =
     × ((bytes : List ℕ) (byte : ℕ) → Exactly (doorHit bytes byte .refusal) (lookCauses bytes))
     × ((levels : List ℕ) (item : ℕ) → Exactly (doorFind levels item .refusal) (findCauses levels item))
 
--- Beside refusal 4 of a run and of the finder stands the number of the first bad item, beside everything else 0.
+-- Beside refusal 4 of a run, of a drawing and of the finder stands the number of the first bad item, beside everything else 0.
 abbrev pub ItemBeside : Type 0
 ItemBeside =
     ((h : Host) (c : DoorCall) → let answer : Answer = atDoor h c .answer in

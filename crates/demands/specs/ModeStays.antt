@@ -25,11 +25,13 @@ use Rattle.firmware.specs.Handler.{Served, served}
 use Rattle.firmware.specs.Window.{windowOf}
 use Rattle.trace.specs.Run.{firstBad, itemAt}
 use Rattle.settling.specs.Outcome.{byState}
-use Rattle.demands.specs.Calls.{DoorCall, setUp, readRegister, writeRegister, feedSample, callHandler, runTrace, Host, leftAfter, atDoor, hasWindow, inWindow, byDefinition, ImageOf, shownCON1, StaysEnabled}
+use Rattle.lanes.specs.Lanes.{driven}
+use Rattle.items.specs.First.{firstAbove}
+use Rattle.demands.specs.Calls.{DoorCall, setUp, readRegister, writeRegister, feedSample, callHandler, runTrace, Host, leftAfter, atDoor, hasWindow, inWindow, byDefinition, ImageOf, shownCON1, StaysEnabled, drawLanes, drawnLevels}
 use Rattle.demands.specs.Demands.{ModeStays}
 use Rattle.demands.specs.DemandOne.{by-register}
 use Rattle.demands.specs.DemandTwo.{shown-is, image-or-none, demand-two}
-use Rattle.demands.specs.DemandThree.{standing, step-stands, run-stands}
+use Rattle.demands.specs.DemandThree.{unmoved, step-stands, run-stands}
 
 -- Where SSPEN was 1 and is 1, SSPM is what it was.
 abbrev KeepsMode : Config → Config → Type 0
@@ -60,7 +62,7 @@ module _ (v : ℕ) (m : Module) where
 -- ---- every call but a setup
 window-stands :
     (w : Served) (start n : ℕ) (trace : List ℕ) (f bad : Bool) (item : ℕ)
-    → standing (inWindow f bad item w start n (map itemAt trace) .left .state) ≡ standing (w .state)
+    → unmoved (inWindow f bad item w start n (map itemAt trace) .left .state) ≡ unmoved (w .state)
 window-stands w start n trace false bad item = refl
 window-stands w start n trace true true item = refl
 window-stands w start n trace true false item = run-stands (w .state) (windowOf start n (w .bytes)) trace
@@ -81,6 +83,9 @@ call-mode w (callHandler start n) other on stays =
     ap (λ (x : ℕ × ℕ). x .1) (window-stands w start n (4 ∷ []) (hasWindow w start n) false 0)
 call-mode w (runTrace start n items) other on stays =
     ap (λ (x : ℕ × ℕ). x .1) (window-stands w start n items (hasWindow w start n) (ltb (firstBad items) (length items)) (firstBad items))
+call-mode w (drawLanes start n levels lanes) other on stays =
+    let part : List ℕ = drawnLevels levels lanes in
+    ap (λ (x : ℕ × ℕ). x .1) (window-stands w start n (driven (served (w .state) (windowOf start n (w .bytes))) part) (hasWindow w start n) (ltb (firstAbove 3 part) (length part)) (firstAbove 3 part))
 
 -- ---- a list of calls
 starts-enabled : (h : Host) (calls : List DoorCall) → StaysEnabled h calls → bit 5 (shownCON1 h) ≡ true
