@@ -11,6 +11,7 @@ use lib.ListN.{length, take, drop, take-append-drop, length-append, length-drop,
 use lib.Seq.{length-take-le, take-at, drop-at, getD-append-add}
 use borrow.Author.Tests.{ltb-false, lt-ltb, le-ltb, eq-eqb, le-leb}
 use Rattle.truth.specs.Tests.{by-test, by-choice}
+use Rattle.items.specs.First.{firstAbove, NoneAbove}
 use Rattle.items.specs.Theorems.{none-above, none-first}
 use Rattle.refusals.specs.declared.Refusal.the-variants.{NoWindow}
 use Rattle.wire.specs.Byte.{bit}
@@ -133,17 +134,17 @@ run-stands s bytes (x ∷ xs) =
     run-stands (byteStep s bytes x .state) (byteStep s bytes x .bytes) xs ∙ step-stands (ltb x 4) (eqb x 4) s bytes x
 
 -- Every item is one.
-none-bad : (items : List ℕ) → AllItems items → ltb (firstBad items) (length items) ≡ false
-none-bad items good = le-ltb (firstBad items) (length items) (omega (arith, none-first 4 items good))
+pub none-bad : (most : ℕ) (items : List ℕ) → NoneAbove most items → ltb (firstAbove most items) (length items) ≡ false
+none-bad most items good = le-ltb (firstAbove most items) (length items) (omega (arith, none-first most items good))
 
 all-good : (items : List ℕ) → ltb (firstBad items) (length items) ≡ false → AllItems items
 all-good items e = none-above 4 items (ltb-false (firstBad items) (length items) e)
 
-module _ (xs ys : List ℕ) (good : AllItems (xs ++ ys)) where
-  good-first : AllItems xs
+module _ {most : ℕ} (xs ys : List ℕ) (good : NoneAbove most (xs ++ ys)) where
+  pub good-first : NoneAbove most xs
   good-first k h = rw (← List·getD-append xs ys 0 k h) (good k (simp length-append (omega arith)))
 
-  good-rest : AllItems ys
+  pub good-rest : NoneAbove most ys
   good-rest k h = rw (← getD-append-add xs ys k 0) (good (length xs + k) (simp length-append (omega arith)))
 
 -- Items in a window of the buffer, and the rest of them in the same window
@@ -166,10 +167,14 @@ module _ (start n : ℕ) where
       left-length : length (left .bytes) ≡ n
       left-length = run-length (w .state) (windowOf start n (w .bytes)) xs ∙ window-length start n (w .bytes) within
 
-      ran-fits : hasWindow (ranOn w xs) start n ≡ true
+      pub ran-fits : hasWindow (ranOn w xs) start n ≡ true
       ran-fits = rw (splice-length start n (left .bytes) (w .bytes) within left-length, ap (λ (x : ℕ × ℕ). x .0) (run-stands (w .state) (windowOf start n (w .bytes)) xs)) f
 
-      ran-on : (ys : List ℕ) → ranOn (ranOn w xs) ys ≡ ranOn w (xs ++ ys)
+      -- The window holds what the items left in it.
+      pub left-window : windowOf start n (ranOn w xs .bytes) ≡ left .bytes
+      left-window = splice-window start n (left .bytes) (w .bytes) within left-length
+
+      pub ran-on : (ys : List ℕ) → ranOn (ranOn w xs) ys ≡ ranOn w (xs ++ ys)
       ran-on ys =
           rw (splice-window start n (left .bytes) (w .bytes) within left-length, ← after-joined itemAt (served (w .state) (windowOf start n (w .bytes))) xs ys, splice-again start n (left .bytes) (w .bytes) within left-length (runOf (w .state) (windowOf start n (w .bytes)) (xs ++ ys) .bytes))
 
@@ -182,7 +187,7 @@ module _ (start n : ℕ) where
       {c : DoorCall} {items : List ℕ} → Asks start n c items → (w : Served) → hasWindow w start n ≡ true → AllItems items
       → byDefinition w c ≡ reply (done 0) (ranOn w items)
   unfolding afterAll
-  asked (a-run {items = items}) w f good = rw (f, none-bad items good)
+  asked (a-run {items = items}) w f good = rw (f, none-bad 4 items good)
   asked (a-sample {level = level} h) w f good = rw (lt-ltb level 4 (omega arith), splice-own start n (w .bytes))
   asked a-call w f good = rw f
 

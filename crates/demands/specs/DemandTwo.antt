@@ -196,6 +196,12 @@ image-or-none bytes = by (decodeOf bytes) refl
     by none e = inl (e, λ s image. Option·none-ne-some s (sym e ∙ decode-exactly bytes s .1 image))
     by (some s) e = inr (s, e, decode-exactly bytes s .0 e)
 
+-- On the image of a state a call does what the definitions say of that state.
+pub at-image : (s : State) (h : Host) (c : DoorCall) → ImageOf s (h .state) → atDoor h c ≡ imageReply (byDefinition (served s (h .buffer)) c)
+at-image s h c image =
+    let w : Served = served s (h .buffer) in
+    subst (λ (b : List ℕ). atDoor (host b (h .buffer)) c ≡ imageReply (byDefinition w c)) (image .0) (one-call w (image .1) c)
+
 -- What holds of a call that answers 6 where there is no state, and else works on the state whose image the bytes are.
 pub by-image {ℓ} :
     (h : Host) (c : DoorCall) → (decodeOf (h .state) ≡ none → atDoor h c ≡ reply (refused NoState 0) h) → (P : Reply Host → Type ℓ)
@@ -203,10 +209,7 @@ pub by-image {ℓ} :
     → ((s : State) → ImageOf s (h .state) → P (imageReply (byDefinition (served s (h .buffer)) c))) → P (atDoor h c)
 by-image h c six P p q =
     ⊎-elim (λ k. subst P (sym (six (k .0))) (p (k .1)))
-    (λ k.
-    let w : Served = served (k .0) (h .buffer) in
-    subst (λ (b : List ℕ). P (atDoor (host b (h .buffer)) c)) (k .2 .0)
-    (subst P (sym (one-call w (k .2 .1) c)) (q (k .0) (k .2))))
+    (λ k. subst P (sym (at-image (k .0) h c (k .2))) (q (k .0) (k .2)))
     (image-or-none (h .state))
 
 -- A drawing answers 6 where there is no state.

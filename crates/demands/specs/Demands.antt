@@ -4,8 +4,8 @@ use Prim.Native.Nat.{ℕ, _+_, _%_, _<_, _≤_}
 use mathlib.Core.Logic.{_⊎_, _↔_}
 use mathlib.Core.Path.{_≡_}
 use mathlib.Core.Bool.{true, false}
-use mathlib.Core.List.{List, [], _∷_, map}
-use lib.ListN.{length}
+use mathlib.Core.List.{List, [], _∷_, _++_, map}
+use lib.ListN.{length, drop}
 use Rattle.items.specs.First.{FirstAbove}
 use Rattle.wire.specs.Byte.{bit}
 use Rattle.address.specs.declared.Hit.the-variants.{None, Own, GeneralCall}
@@ -16,6 +16,7 @@ use Rattle.firmware.specs.Handler.{longestWindow, Served, served, stateOf, memo
 use Rattle.firmware.specs.Window.{windowOf, splice}
 use Rattle.trace.specs.Run.{itemAt}
 use Rattle.trace.specs.Window.{SameOutside}
+use Rattle.lanes.specs.Lanes.{allWords, driven}
 use Rattle.agreement.specs.Joint.{Joint, run, afresh, Agrees}
 use Rattle.image.specs.Image.{imageLength}
 use Rattle.view.specs.declared.View.{View}
@@ -25,7 +26,7 @@ use Rattle.settling.specs.Outcome.{done}
 use Rattle.module_calls.specs.Calls.{doorLook, doorHit}
 use Rattle.door.specs.declared.Part.{Part}
 use Rattle.door.specs.Door.{doorFind, Drawn, doorDraw}
-use Rattle.demands.specs.Calls.{DoorCall, setUp, readRegister, writeRegister, feedSample, callHandler, runTrace, drawLanes, Host, answers, leftAfter, Allows, atDoor, byDefinition, ImageOf, shownCON1, HasTenBits, causes, lookCauses, findCauses, Exactly, OnlyBeside, Beside, StaysEnabled, Fits, TakenAsSaid, CanEndTheHold, FollowsAsShown, Matches, EndsAs, AllItems, Feeds, ShowsNoneRefused, firmware}
+use Rattle.demands.specs.Calls.{DoorCall, setUp, readRegister, writeRegister, feedSample, callHandler, runTrace, drawLanes, drawnLevels, Host, answers, leftAfter, Allows, atDoor, byDefinition, ImageOf, shownCON1, HasTenBits, causes, lookCauses, findCauses, Exactly, OnlyBeside, Beside, StaysEnabled, Fits, TakenAsSaid, CanEndTheHold, FollowsAsShown, Matches, EndsAs, AllItems, Feeds, ShowsNoneRefused, firmware}
 
 -- ---- DEMAND 1: every call has one outcome, changes only what it may, and refuses by number, exactly for the causes of the table
 -- Only one answer fits a call's contract, with one state and one buffer. (What look, hit and find answer is an equation as it
@@ -120,6 +121,33 @@ RunIsCalls =
     → atDoor h (runTrace start n items) .answer .refusal ≡ 0
     → (answers atDoor h calls ≡ map (λ c. done 0) calls)
     × (leftAfter atDoor h calls ≡ atDoor h (runTrace start n items) .left)
+
+-- ---- a drawing is a run, and so the calls one after the other: of the levels that it takes, with a handler call (4) before each at
+-- which the module holds the clock and the record shows SCL high (`driven`). Accepted, it answers and leaves what that run does; its
+-- lanes are the words of these levels, one after the other (`allWords`, each by `wordAt` what is seen after its item), and behind
+-- them what was there
+abbrev pub DrawIsRun : Type 0
+DrawIsRun =
+    (s : State) (h : Host) (start n : ℕ) (levels lanes : List ℕ) → ImageOf s (h .state)
+    → atDoor h (drawLanes start n levels lanes) .answer .refusal ≡ 0
+    → let part : List ℕ = drawnLevels levels lanes in
+    let w : Served = served s (windowOf start n (h .buffer)) in
+    let d : Drawn = doorDraw (h .state) (h .buffer) start n levels lanes in
+    (atDoor h (runTrace start n (driven w part)) ≡ atDoor h (drawLanes start n levels lanes))
+    × (d .lanes ≡ allWords w part ++ drop (length part) lanes)
+    × (d .taken .samples ≡ length part)
+
+-- Cut anywhere it goes on where it was: where the whole record is accepted its two parts are, one after the other; they leave the
+-- same bytes and buffer, and the lanes of the whole are theirs.
+abbrev pub DrawnInParts : Type 0
+DrawnInParts =
+    (h : Host) (start n : ℕ) (a b la lb : List ℕ) → length a ≡ length la → length b ≡ length lb
+    → let whole : Drawn = doorDraw (h .state) (h .buffer) start n (a ++ b) (la ++ lb) in
+    let first : Drawn = doorDraw (h .state) (h .buffer) start n a la in
+    let second : Drawn = doorDraw (first .state) (first .buffer) start n b lb in
+    whole .taken .refusal ≡ 0
+    → (first .taken .refusal ≡ 0) × (second .taken .refusal ≡ 0) × (second .state ≡ whole .state) × (second .buffer ≡ whole .buffer)
+    × (whole .lanes ≡ first .lanes ++ second .lanes)
 
 -- ---- while SSPEN stays 1, no list of calls changes SSPM, the low four bits of CON1: another mode comes only by disabling or by
 -- a setup

@@ -6,3 +6,4 @@ pub mod DemandThree
 pub mod HandlerIsFirmware
 pub mod ModeStays
 pub mod Addresses
+pub mod Draws

@@ -27,6 +27,18 @@ unfolding allTaken allWords
 words-joined w [] b = refl
 words-joined w (x ∷ xs) b = ap (λ (ys : List ℕ). wordAt w x ∷ ys) (words-joined (itemTaken w x) xs b)
 
+called-joined : (called : Bool) (x : ℕ) (xs ys : List ℕ) → cond called (4 ∷ (x ∷ (xs ++ ys))) (x ∷ (xs ++ ys)) ≡ cond called (4 ∷ (x ∷ xs)) (x ∷ xs) ++ ys
+called-joined true x xs ys = refl
+called-joined false x xs ys = refl
+
+pub driven-joined : (w : Served) (a b : List ℕ) → driven w (a ++ b) ≡ driven w a ++ driven (allTaken w a) b
+unfolding allTaken driven
+driven-joined w [] b = refl
+driven-joined w (x ∷ xs) b =
+    let called : Bool = isCalled (w .state .mssp .phase) x in
+    ap (λ (rest : List ℕ). cond called (4 ∷ (x ∷ rest)) (x ∷ rest)) (driven-joined (itemTaken w x) xs b)
+    ∙ called-joined called x (driven (itemTaken w x) xs) (driven (allTaken (itemTaken w x) xs) b)
+
 -- ---- as a run
 levels-rest : (x : ℕ) (xs : List ℕ) → NoneAbove 3 (x ∷ xs) → NoneAbove 3 xs
 levels-rest x xs good k h = good (suc k) (omega arith)
