@@ -1,18 +1,20 @@
-/* Feeds one capture to the archive and to the second program and measures both in one process; for bench/run.sh. */
-#include "capture.h"
+/* Feeds one capture to the archive and to the second program, draws its wire, and measures both in one process; for
+   bench/run.sh. */
 #include "second.h"
 #include "wherryoar.h"
+#include "wire.h"
 
 #include <stdio.h>
 #include <stdlib.h>
 #include <string.h>
 #include <time.h>
 
-enum { IMAGE = WHERRYOAR_STATE_LENGTH, CALL = CAPTURE_CALL, ADD = CAPTURE_ADD, N = CAPTURE_N, ROUNDS = 3, KINDS = 4 };
+enum { IMAGE = WHERRYOAR_STATE_LENGTH, CALL = CAPTURE_CALL, ADD = CAPTURE_ADD, N = CAPTURE_N, ROUNDS = 3, KINDS = 6 };
 
 /* What is measured. */
-enum { RUN, SECOND_RUN, SAMPLE, SECOND_SAMPLE };
-static const char *const names[KINDS] = {"wherryoar_run", "second_run", "wherryoar_sample", "second_sample"};
+enum { RUN, SECOND_RUN, SAMPLE, SECOND_SAMPLE, DRAW, SECOND_DRAW };
+static const char *const names[KINDS] = {"wherryoar_run", "second_run", "wherryoar_sample", "second_sample", "wherryoar_draw",
+                                         "second_draw"};
 
 /* What a sample does: it moves something, or the wire is the one remembered and every byte stays (the short way). */
 enum { MOVING, STILL, NEITHER, EFFECTS };
@@ -27,11 +29,29 @@ typedef struct {
 static capture fed;
 static uint8_t image[IMAGE], memory[N];
 
+/* The wire of the capture, and the lanes of a drawing and of the one before it. */
+static uint8_t wire[CAPTURE_LONGEST];
+static size_t wire_length;
+static uint64_t lanes[CAPTURE_LONGEST], other_lanes[CAPTURE_LONGEST];
+
 /* The samples of the capture by themselves, and how many have each effect. */
 static lone_sample lone[CAPTURE_LONGEST];
 static size_t lone_samples, with_effect[EFFECTS];
 
 /* ---- Feeding ---- */
+
+/* Makes the capture and its wire. */
+static void make_capture(unsigned per_clock, size_t items)
+{
+    capture_make(&fed, per_clock, items);
+    wire_length = wire_of(&fed, wire);
+}
+
+/* How many items a way has to feed: those of the capture, or for a drawing those of its wire, which has no handler calls. */
+static size_t items_of(int kind)
+{
+    return kind == DRAW || kind == SECOND_DRAW ? wire_length : fed.length;
+}
 
 /* The whole capture to the archive, an item at a time. */
 static uint32_t feed_samples(void)
@@ -57,7 +77,7 @@ static uint32_t feed_second_samples(void)
     return refused;
 }
 
-/* The whole capture from a fresh state and a zero memory, in one of the four ways. */
+/* The whole capture, or its wire, from a fresh state and a zero memory, in one of the six ways. */
 static int feed(int kind)
 {
     uint32_t refused = wherryoar_setup(image, IMAGE, ADD, N).refusal;
@@ -69,12 +89,42 @@ static int feed(int kind)
         refused |= second_run(image, IMAGE, memory, N, 0, N, fed.items, fed.length).refusal;
     else if (kind == SAMPLE)
         refused |= feed_samples();
-    else
+    else if (kind == SECOND_SAMPLE)
         refused |= feed_second_samples();
+    else if (kind == DRAW)
+        refused |= wherryoar_draw(image, IMAGE, memory, N, 0, N, wire, wire_length, lanes, wire_length).refusal;
+    else
+        refused |= second_draw(image, IMAGE, memory, N, 0, N, wire, wire_length, lanes, wire_length).refusal;
     return refused == 0;
 }
 
-/* Whether all four come to the same state and memory, and the memory was written. */
+/* How many handler calls of the capture end a hold: all but the last of each pair of messages, after a byte that the master did
+   not acknowledge. A drawing does not make that one, which clears SSPIF and no more. */
+static size_t calls_in_holds(void)
+{
+    size_t calls = 0, i;
+
+    for (i = 0; i < fed.length; i++)
+        calls += fed.items[i] == CALL;
+    return calls - fed.pairs;
+}
+
+/* Whether both draw the same words, with those calls and without a conflict: the wire is the one that the capture brings. */
+static int drawn_the_same(void)
+{
+    size_t calls = 0, conflicts = 0, i;
+    int same = wire_length > 0 && feed(DRAW);
+
+    memcpy(other_lanes, lanes, wire_length * sizeof lanes[0]);
+    same = feed(SECOND_DRAW) && same && memcmp(other_lanes, lanes, wire_length * sizeof lanes[0]) == 0;
+    for (i = 0; i < wire_length; i++) {
+        calls += (lanes[i] & WHERRYOAR_WORD_CALLED) != 0;
+        conflicts += (lanes[i] & WHERRYOAR_WORD_CONFLICT) != 0;
+    }
+    return same && calls == calls_in_holds() && conflicts == 0;
+}
+
+/* Whether all six come to the same state, drawings but for SSPIF, and the same memory, and the memory was written. */
 static int all_the_same(void)
 {
     uint8_t first_image[IMAGE], first_memory[N];
@@ -82,10 +132,14 @@ static int all_the_same(void)
 
     memcpy(first_image, image, IMAGE);
     memcpy(first_memory, memory, N);
-    for (kind = SECOND_RUN; kind < KINDS; kind++)
-        same = feed(kind) && same && memcmp(first_image, image, IMAGE) == 0 && memcmp(first_memory, memory, N) == 0;
+    for (kind = SECOND_RUN; kind < KINDS; kind++) {
+        same = feed(kind) && same;
+        if (kind == DRAW || kind == SECOND_DRAW)
+            image[WHERRYOAR_FLAG] = first_image[WHERRYOAR_FLAG];
+        same = same && memcmp(first_image, image, IMAGE) == 0 && memcmp(first_memory, memory, N) == 0;
+    }
     memset(first_memory, 0, N);
-    return same && memcmp(first_memory, memory, N) != 0;
+    return same && memcmp(first_memory, memory, N) != 0 && drawn_the_same();
 }
 
 /* ---- Samples by themselves ---- */
@@ -151,7 +205,7 @@ static int each_the_same(void)
 
 /* ---- Measuring ---- */
 
-/* Nanoseconds an item takes, the best of several rounds in which the four take turns. */
+/* Nanoseconds an item takes, the best of several rounds in which the six take turns. */
 static void measure(double best[KINDS])
 {
     int round, kind;
@@ -164,13 +218,14 @@ static void measure(double best[KINDS])
             double took;
 
             (void)feed(kind);
-            took = (double)(clock() - from) * 1e9 / CLOCKS_PER_SEC / (double)fed.length;
+            took = (double)(clock() - from) * 1e9 / CLOCKS_PER_SEC / (double)items_of(kind);
             if (took < best[kind])
                 best[kind] = took;
         }
 }
 
-/* A line of the table for each number of samples per clock: that number, the items, and the four. */
+/* A line of the table for each number of samples per clock: that number, the items, and run and sample; the items of the wire,
+   and draw. */
 static int time_all(void)
 {
     static const unsigned per_clock[4] = {2, 4, 20, 100};
@@ -178,12 +233,12 @@ static int time_all(void)
     int i;
 
     for (i = 0; i < 4; i++) {
-        capture_make(&fed, per_clock[i], CAPTURE_TIMED);
+        make_capture(per_clock[i], CAPTURE_TIMED);
         if (!all_the_same())
             return 1;
         measure(best);
-        printf("%u %lu %.3f %.3f %.3f %.3f\n", per_clock[i], (unsigned long)fed.length, best[RUN], best[SECOND_RUN],
-               best[SAMPLE], best[SECOND_SAMPLE]);
+        printf("%u %lu %.3f %.3f %.3f %.3f %lu %.3f %.3f\n", per_clock[i], (unsigned long)fed.length, best[RUN],
+               best[SECOND_RUN], best[SAMPLE], best[SECOND_SAMPLE], (unsigned long)wire_length, best[DRAW], best[SECOND_DRAW]);
     }
     return 0;
 }
@@ -203,10 +258,10 @@ static int feed_times(int kind, unsigned per_clock, unsigned times)
 {
     int fine = 1;
 
-    capture_make(&fed, per_clock, CAPTURE_COUNTED);
+    make_capture(per_clock, CAPTURE_COUNTED);
     while (times-- > 0)
         fine = feed(kind) && fine;
-    printf("%lu\n", (unsigned long)fed.length);
+    printf("%lu\n", (unsigned long)items_of(kind));
     return fine ? 0 : 1;
 }
 
@@ -217,13 +272,14 @@ static int feed_effect(int kind, unsigned per_clock, int effect)
     return take_samples() && feed_lone(kind, effect) ? 0 : 1;
 }
 
-/* Prints how many samples of that capture move something and how many do not; fails where the two programs differ in one. */
+/* Prints how many samples of that capture move something and how many do not; fails where the two programs differ in one, or in
+   the drawing of its wire. */
 static int tell_effects(unsigned per_clock)
 {
     if (per_clock < 2)
         return 2;
-    capture_make(&fed, per_clock, CAPTURE_COUNTED);
-    if (!take_samples() || !each_the_same())
+    make_capture(per_clock, CAPTURE_COUNTED);
+    if (!take_samples() || !each_the_same() || !drawn_the_same())
         return 1;
     printf("%lu %lu\n", (unsigned long)with_effect[MOVING], (unsigned long)with_effect[STILL]);
     return 0;

@@ -22,7 +22,8 @@ build_bench() {
     build_archive && $CC_ARCHIVE $strict $door -o "$out/bench" bench/bench.c bench/capture.c tests/second/second.c "$archive"
 }
 
-# Lines 'samples-per-clock items run second-run sample second-sample' as a table.
+# Lines 'samples-per-clock items run second-run sample second-sample items-of-the-wire draw second-draw' as a table of run and
+# sample.
 table() { # table WHAT
     awk -v what="$1" '
     BEGIN {
@@ -49,6 +50,33 @@ budgets() {
         printf "run at most 1.50 times second_run: %.2f, %s; sample at most 20 times a step of run: %.2f, %s\n",
             run, run <= 1.5 ? "kept" : "NOT KEPT", sample, sample <= 20 ? "kept" : "NOT KEPT"
         exit NR == 0 || run > 1.5 || sample > 20
+    }'
+}
+
+# The same lines as a table of draw, which reads the wire of the capture and calls the handler by itself.
+draw_table() { # draw_table WHAT
+    awk -v what="$1" '
+    BEGIN {
+        printf "%s per item of the wire, drawn\n", what
+        printf "%9s %8s | %14s %11s %5s | %13s %s\n", "samples", "items", "wherryoar_draw", "second_draw", "ratio",
+            "wherryoar_run", "wherryoar_draw"
+        printf "%9s %8s | %14s %11s %5s | %13s %s\n", "per clock", "", "", "", "", "", "to wherryoar_run"
+    }
+    { printf "%9d %8d | %14.1f %11.1f %5.2f | %13.1f %16.2f\n", $1, $7, $8, $9, $8 / $9, $3, $8 / $3 }
+    END { exit NR == 0 }'
+}
+
+# The budgets of draw, from the same lines; fails where one is not kept. That of 100 samples per clock is one of instructions.
+draw_budgets() { # draw_budgets instructions|nanoseconds
+    awk -v what="$1" '
+    $1 == 2 { edges = $8 / $3; lines++ }
+    $1 == 100 { still = $8; lines++ }
+    END {
+        printf "draw at most 3.00 times run at 2 samples per clock: %.2f, %s", edges, edges <= 3 ? "kept" : "NOT KEPT"
+        if (what == "instructions")
+            printf "; at most 20 instructions an item at 100: %.1f, %s", still, still <= 20 ? "kept" : "NOT KEPT"
+        printf "\n"
+        exit lines != 2 || edges > 3 || (what == "instructions" && still > 20)
     }'
 }
 
@@ -116,17 +144,24 @@ cost_of_each() { # cost_of_each WITHOUT WITH NUMBER
     awk -v a="$1" -v b="$2" -v n="$3" 'BEGIN { printf "%.3f", (b - a) / n }'
 }
 
-# A line 'samples-per-clock items run second-run sample second-sample': the instructions with the capture fed once less those
-# without.
-count_items() { # count_items SAMPLES-PER-CLOCK
-    local function without once items line
-    without=$(counted "$out/bench" second_run "$1" 0) && read -r items <"$out/told" || return 1
-    line="$1 $items"
-    for function in wherryoar_run second_run wherryoar_sample second_sample; do
+# Words 'items cost..': how many items a way of feeding has, and for each function the instructions with the capture fed once less
+# those without.
+count_ways() { # count_ways SAMPLES-PER-CLOCK FUNCTION..
+    local function without once items words
+    without=$(counted "$out/bench" "$2" "$1" 0) && read -r items <"$out/told" || return 1
+    words=$items
+    for function in "${@:2}"; do
         once=$(counted "$out/bench" "$function" "$1" 1) || return 1
-        line="$line $(cost_of_each "$without" "$once" "$items")"
+        words="$words $(cost_of_each "$without" "$once" "$items")"
     done
-    echo "$line"
+    echo "$words"
+}
+
+# A line 'samples-per-clock items run second-run sample second-sample items-of-the-wire draw second-draw'.
+count_items() { # count_items SAMPLES-PER-CLOCK
+    local fed drawn
+    fed=$(count_ways "$1" wherryoar_run second_run wherryoar_sample second_sample) &&
+        drawn=$(count_ways "$1" wherryoar_draw second_draw) && echo "$1 $fed $drawn"
 }
 
 # A line 'samples-per-clock moving sample second-sample still sample second-sample': how many samples move something, and how
@@ -134,7 +169,8 @@ count_items() { # count_items SAMPLES-PER-CLOCK
 count_effects() { # count_effects SAMPLES-PER-CLOCK
     local function effect without once moving still line=$1
     if ! $RUN "$out/bench" "$1" >"$out/told" || ! read -r moving still <"$out/told"; then
-        echo "The archive and the second program do not come to the same state with each sample at $1 samples per clock." >&2
+        echo "The archive and the second program do not come to the same state with each sample, or do not draw the same words," \
+            "at $1 samples per clock." >&2
         return 1
     fi
     without=$(counted "$out/bench" second_sample "$1" neither) || return 1
@@ -172,6 +208,9 @@ tell_instructions() {
     table "instructions (x86-64, counted by $counter)" <"$out/counts" || return 1
     budgets <"$out/counts" || status=1
     echo
+    draw_table "instructions (x86-64, counted by $counter)" <"$out/counts" || return 1
+    draw_budgets instructions <"$out/counts" || status=1
+    echo
     effects_table "instructions (x86-64, counted by $counter)" <"$out/effect_counts" || return 1
     effects_budgets <"$out/effect_counts" || status=1
     echo
@@ -181,14 +220,14 @@ tell_instructions() {
 
 # ---- Times ----
 
-# Times the four once more. The best of each stays in $out/times: another program can slow this machine for seconds on end, so
+# Times the six once more. The best of each stays in $out/times: another program can slow this machine for seconds on end, so
 # the times are taken at several moments.
 take_times() {
     $RUN "$out/bench" >"$out/times_now" || return 1
     touch "$out/times"
     awk '
-    FILENAME == ARGV[1] { for (i = 3; i <= 6; i++) best[$1, i] = $i; next }
-    { for (i = 3; i <= 6; i++) if (($1, i) in best && best[$1, i] < $i) $i = best[$1, i]; print }
+    FILENAME == ARGV[1] { for (i = 3; i <= 9; i++) best[$1, i] = $i; next }
+    { for (i = 3; i <= 9; i++) if (($1, i) in best && best[$1, i] < $i) $i = best[$1, i]; print }
     ' "$out/times" "$out/times_now" >"$out/times_best" && mv "$out/times_best" "$out/times"
 }
 
@@ -205,6 +244,9 @@ tell_times() {
     if [ -z "$RUN" ]; then
         table "nanoseconds (best of several)" <"$out/times" || return 1
         budgets <"$out/times"
+        echo
+        draw_table "nanoseconds (best of several)" <"$out/times" || return 1
+        draw_budgets nanoseconds <"$out/times"
         echo
     else
         echo "This machine is $(uname -m): the archive runs under an emulator, where times beside the second program say nothing."

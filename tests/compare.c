@@ -2,6 +2,7 @@
 #include "moments.h"
 #include "round.h"
 #include "traffic.h"
+#include "words.h"
 
 #include <stdio.h>
 #include <stdlib.h>
@@ -13,8 +14,11 @@ enum { QUIET, ADDRESS, DATA, HELD_BEFORE, SLOT, HELD_SENDING, SENDING, MASTER_AC
 
 /* The shortest trace to a spoiled place has 24 steps; one that is not much longer is short. A long run has to reach every
    refusal, phase and mode, every case of a slot of every byte, all that can follow the hold for ADD, every answer to which
-   address hit, and every moment around a refused byte, a general call and a ten-bit address. */
+   address hit, every moment around a refused byte, a general call and a ten-bit address, and every bit of a word. */
 enum { REFUSALS = 10, MODE_UNDER_WAY = 8, MASKED = 9, NO_WIRE = 255, NO_ITEM = 255, SHORT_TRACE = 30, LONG_RUN = 100000 };
+
+/* The single bits of a word that are counted, from SSPIF to the conflict. */
+enum { WORD_BITS = WORD_CONFLICT - WORD_SSPIF + 1 };
 
 /* All that the comparison keeps; the counts tell what was reached, so that a pass says something. */
 typedef struct {
@@ -31,6 +35,7 @@ typedef struct {
     unsigned long running[MODES]; /* steps after which the module runs, by its mode */
     unsigned long slots[BYTES][SLOT_CASES], low_bytes, held_before[BYTES], nexts[NEXTS], full; /* what they come to */
     unsigned long hits[HITS], moments[MOMENTS];
+    unsigned long words, with_bit[WORD_BITS], calls_for_add; /* words, those with each bit, those of a call in the hold for ADD */
 } bench;
 
 /* ---- Steps ---- */
@@ -43,12 +48,12 @@ static pair_step step_of(bench *b, int kind)
     memset(&s, 0, sizeof s);
     s.kind = (uint8_t)kind;
     s.state_length = PAIR_IMAGE;
-    if (kind == PAIR_CALL || kind == PAIR_RUN) {
+    if (kind == PAIR_CALL || kind == PAIR_RUN || kind == PAIR_DRAW) {
         s.start = b->round.start;
         s.n = b->both.second.view.n;
         s.buffer_length = PAIR_BUFFER;
     }
-    if (kind == PAIR_RUN || kind == PAIR_FIND)
+    if (kind == PAIR_RUN || kind == PAIR_FIND || kind == PAIR_DRAW)
         memset(s.bytes, NO_ITEM, PAIR_BYTES);
     return s;
 }
@@ -69,10 +74,21 @@ static void count_state(bench *b, const second_view *v)
     b->full += v->full;
 }
 
+/* Counts a word of a drawing by its bits. */
+static void count_word(bench *b, uint64_t word)
+{
+    int i;
+
+    b->words++;
+    for (i = 0; i < WORD_BITS; i++)
+        b->with_bit[i] += (unsigned long)word_has(word, WORD_SSPIF + i);
+    b->calls_for_add += word_has(word, WORD_CALLED) && (word >> WORD_PHASE & 0xF) == HELD_ADD;
+}
+
 /* Counts what a step from a state has reached. */
 static void count(bench *b, const pair_step *s, const uint8_t *before)
 {
-    uint64_t refusal = b->both.second.outcome.refusal;
+    uint64_t refusal = b->both.second.outcome.refusal, i;
 
     b->steps++;
     b->kinds[s->kind]++;
@@ -83,6 +99,8 @@ static void count(bench *b, const pair_step *s, const uint8_t *before)
         b->hits[b->both.second.outcome.value]++;
     if (refusal == 0 && s->kind < PAIR_RUN) /* a sample, a handler call, a read or a write */
         moments_count(b->moments, before, b->both.second.room + PAIR_GUARD);
+    for (i = 0; s->kind == PAIR_DRAW && i < b->both.second.outcome.length; i++)
+        count_word(b, b->both.second.lanes[i]);
 }
 
 /* Makes a step on both and keeps it. */
@@ -313,15 +331,17 @@ static void odd_window(bench *b, pair_step *s)
 /* A step with something wrong in it, or two things. */
 static void odd_step(bench *b)
 {
-    static const uint8_t kinds[7] = {PAIR_SAMPLE, PAIR_CALL, PAIR_READ, PAIR_WRITE, PAIR_SETUP, PAIR_RUN, PAIR_HIT};
-    pair_step s = step_of(b, kinds[traffic_below(&b->source, 7)]);
+    static const uint8_t kinds[8] = {PAIR_SAMPLE, PAIR_CALL, PAIR_READ, PAIR_WRITE, PAIR_SETUP, PAIR_RUN, PAIR_HIT, PAIR_DRAW};
+    pair_step s = step_of(b, kinds[traffic_below(&b->source, 8)]);
+    int items = s.kind == PAIR_RUN || s.kind == PAIR_DRAW;
 
     s.number = (uint8_t)traffic_below(&b->source, 256);
     s.value = (uint8_t)traffic_below(&b->source, 256);
-    if (s.kind == PAIR_CALL || s.kind == PAIR_RUN) {
+    if (s.kind == PAIR_CALL || items) {
         odd_window(b, &s);
         s.number = s.value = 0;
-        s.count = s.kind == PAIR_RUN;
+        s.count = (uint8_t)items;
+        s.lanes = (uint8_t)(s.kind == PAIR_DRAW);
         s.bytes[0] = (uint8_t)traffic_below(&b->source, 8);
     } else if (s.kind == PAIR_SETUP) {
         s.n = traffic_once_in(&b->source, 2) ? 0 : 257 + some_edge(b) % 100000;
@@ -331,16 +351,16 @@ static void odd_step(bench *b)
     make(b, &s);
 }
 
-/* ---- Runs and records ---- */
+/* ---- Runs, drawings and records ---- */
 
-/* One item at the end of a run. */
+/* One item at the end of a run or a record. */
 static void put(pair_step *s, unsigned item)
 {
     if (s->count < PAIR_BYTES)
         s->bytes[s->count++] = (uint8_t)item;
 }
 
-/* A byte with its ninth slot and one handler call, two samples to a clock. */
+/* A byte with its ninth slot, two samples to a clock; in a run with one handler call. */
 static void put_byte(pair_step *s, unsigned value, unsigned ninth)
 {
     int i;
@@ -352,35 +372,62 @@ static void put_byte(pair_step *s, unsigned value, unsigned ninth)
     put(s, ninth);
     put(s, TRAFFIC_SCL | ninth);
     put(s, ninth);
-    put(s, TRAFFIC_CALL);
+    if (s->kind == PAIR_RUN)
+        put(s, TRAFFIC_CALL);
 }
 
-/* A run: a message of two bytes, a low byte where one is to come, or items without sense; now and then with a bad one. */
-static void run(bench *b)
+/* A message of two bytes, in a record with a Stop; the ninth slot of the address is released or, as on a wire, low. */
+static void put_message(bench *b, pair_step *s)
+{
+    unsigned address = (b->round.add & 0xFEu) | traffic_below(&b->source, 2);
+
+    put(s, 1);
+    put(s, 3);
+    put(s, 2);
+    put(s, 0);
+    put_byte(s, address, s->kind == PAIR_RUN || traffic_once_in(&b->source, 2));
+    put_byte(s, address & 1 ? 0xFF : traffic_below(&b->source, 256), traffic_below(&b->source, 2));
+    put_byte(s, address & 1 ? 0xFF : traffic_below(&b->source, 256), 1);
+    put(s, 0);
+    put(s, 2);
+    put(s, 3);
+}
+
+/* A run or a drawing: a message, a low byte where one is to come, or items without sense; now and then with bad ones. The lanes
+   of a drawing are mostly as many as its items, else more, or fewer with often a bad item behind them. */
+static void run(bench *b, int kind)
 {
     const second_view *v = &b->both.second.view;
-    pair_step s = step_of(b, PAIR_RUN);
-    unsigned address = (b->round.add & 0xFEu) | traffic_below(&b->source, 2);
-    unsigned items = traffic_below(&b->source, PAIR_BYTES + 1);
+    pair_step s = step_of(b, kind);
+    unsigned items = traffic_below(&b->source, PAIR_BYTES + 1), highest = kind == PAIR_RUN ? TRAFFIC_CALL : 3;
 
     if (v->phase == ADDRESS && v->which == BYTE_LOW && v->bits == 0)
         put_byte(&s, b->source.low, 1);
-    else if (traffic_once_in(&b->source, 3)) {
+    else if (!traffic_once_in(&b->source, 3))
+        put_message(b, &s);
+    else
         while (items-- > 0)
-            put(&s, traffic_below(&b->source, 5));
-    } else {
-        put(&s, 1);
-        put(&s, 3);
-        put(&s, 2);
-        put(&s, 0);
-        put_byte(&s, address, 1);
-        put_byte(&s, address & 1 ? 0xFF : traffic_below(&b->source, 256), traffic_below(&b->source, 2));
-        put_byte(&s, address & 1 ? 0xFF : traffic_below(&b->source, 256), 1);
-    }
-    if (s.count > 0 && traffic_once_in(&b->source, 20))
-        s.bytes[traffic_below(&b->source, s.count)] = (uint8_t)(5 + traffic_below(&b->source, 251));
+            put(&s, traffic_below(&b->source, highest + 1));
+    while (s.count > 0 && traffic_once_in(&b->source, 20))
+        s.bytes[traffic_below(&b->source, s.count)] = (uint8_t)(highest + 1 + traffic_below(&b->source, 255 - highest));
+    if (kind == PAIR_DRAW)
+        s.lanes = traffic_once_in(&b->source, 3) ? (uint8_t)traffic_below(&b->source, PAIR_LANES) : s.count;
+    if (kind == PAIR_DRAW && s.lanes < s.count && traffic_once_in(&b->source, 2))
+        s.bytes[s.lanes] = NO_ITEM;
     if (traffic_once_in(&b->source, 20))
         odd_window(b, &s);
+    make(b, &s);
+}
+
+/* A level of the traffic as a drawing of its own, once or several times over. */
+static void draw_level(bench *b, unsigned level)
+{
+    pair_step s = step_of(b, PAIR_DRAW);
+    unsigned times = traffic_once_in(&b->source, 2) ? 1 : traffic_below(&b->source, PAIR_BYTES);
+
+    while (times-- > 0)
+        put(&s, level);
+    s.lanes = s.count;
     make(b, &s);
 }
 
@@ -557,6 +604,10 @@ static int take(void *to, unsigned item)
         access_before_ninth(b);
     if (v->phase == HELD_ADD && traffic_once_in(&b->source, 2))
         access_in_hold_for_add(b);
+    if (item != TRAFFIC_CALL && traffic_once_in(&b->source, 10)) {
+        draw_level(b, item);
+        return v->scl_pulled;
+    }
     s = step_of(b, item == TRAFFIC_CALL ? PAIR_CALL : PAIR_SAMPLE);
     if (s.kind == PAIR_SAMPLE)
         s.number = (uint8_t)item;
@@ -608,7 +659,7 @@ static void round_once(bench *b)
 {
     fresh(b);
     while (b->source.left > 0 && b->round.count < ROUND_STEPS && b->steps < b->wanted && !b->difference) {
-        unsigned pick = traffic_below(&b->source, 12);
+        unsigned pick = traffic_below(&b->source, 13);
 
         if (pick < 7)
             traffic_message(&b->source);
@@ -617,7 +668,7 @@ static void round_once(bench *b)
         else if (pick < 9)
             find(b);
         else
-            run(b);
+            run(b, pick < 11 ? PAIR_RUN : PAIR_DRAW);
     }
 }
 
@@ -637,7 +688,8 @@ static int ten_bits_reached(const bench *b)
     return b->low_bytes > 0 && b->full > 0;
 }
 
-/* Whether every refusal, phase and mode, every case of a slot of every byte, every address hit and every moment came up. */
+/* Whether every refusal, phase and mode, every case of a slot of every byte, every address hit, every moment and every bit of a
+   word came up. */
 static int all_reached(const bench *b)
 {
     int i;
@@ -651,7 +703,10 @@ static int all_reached(const bench *b)
     for (i = 0; i < MODES; i++)
         if (b->running[i] == 0)
             return 0;
-    return ten_bits_reached(b) && hits_all(b->hits) && moments_all(b->moments);
+    for (i = 0; i < WORD_BITS; i++)
+        if (b->with_bit[i] == 0)
+            return 0;
+    return ten_bits_reached(b) && hits_all(b->hits) && moments_all(b->moments) && b->calls_for_add > 0;
 }
 
 /* Tells what was reached of slots and of ten bits. */
@@ -668,14 +723,28 @@ static void tell_ten_bits(const bench *b)
            b->nexts[NEXT_QUIET], b->nexts[NEXT_LOW_BYTE], b->nexts[NEXT_DATA], b->full);
 }
 
+/* Tells what was reached by drawings. */
+static void tell_words(const bench *b)
+{
+    static const char *const names[WORD_BITS] = {"SSPIF", "CKP", "SSPOV", "WCOL", "ACKSTAT", "ACKTIM", "called", "stored",
+                                                 "Start", "Stop", "conflict"};
+    int i;
+
+    printf("# words %lu, with", b->words);
+    for (i = 0; i < WORD_BITS; i++)
+        printf(" %s %lu", names[i], b->with_bit[i]);
+    printf(", called in the hold for ADD %lu\n", b->calls_for_add);
+}
+
 /* Tells what was reached. */
 static void tell_reach(const bench *b)
 {
     int i;
 
-    printf("# samples %lu calls %lu reads %lu writes %lu runs %lu placed %lu setups %lu hits %lu finds %lu\n",
+    printf("# samples %lu calls %lu reads %lu writes %lu runs %lu placed %lu setups %lu hits %lu finds %lu drawings %lu\n",
            b->kinds[PAIR_SAMPLE], b->kinds[PAIR_CALL], b->kinds[PAIR_READ], b->kinds[PAIR_WRITE],
-           b->kinds[PAIR_RUN], b->kinds[PAIR_PLACE], b->kinds[PAIR_SETUP], b->kinds[PAIR_HIT], b->kinds[PAIR_FIND]);
+           b->kinds[PAIR_RUN], b->kinds[PAIR_PLACE], b->kinds[PAIR_SETUP], b->kinds[PAIR_HIT], b->kinds[PAIR_FIND],
+           b->kinds[PAIR_DRAW]);
     printf("# refused");
     for (i = 1; i < REFUSALS; i++)
         printf(" %d: %lu", i, b->refused[i]);
@@ -685,6 +754,7 @@ static void tell_reach(const bench *b)
            b->phases[HELD_BEFORE], b->phases[SLOT], b->phases[HELD_SENDING], b->phases[SENDING], b->phases[MASTER_ACK],
            b->phases[HELD_ADD]);
     tell_ten_bits(b);
+    tell_words(b);
     printf("# ");
     hits_tell(b->hits);
     printf("; ");
@@ -707,9 +777,9 @@ static size_t rounds(bench *b, unsigned long steps)
     return round_tell(&b->round);
 }
 
-/* The argument is the number of steps, the second the seed. With a third, 1 to 5, one bit of the archive's answer, state,
-   buffer or view, or of its view in the hold for ADD, is turned over at a place; then the difference must be told, and
-   shortly. Ten bits come into sending by three bytes, which is long, and so only where no place in sending is spoiled. */
+/* The argument is the number of steps, the second the seed. With a third, 1 to 6, one bit of the archive's answer, state,
+   buffer or view, of its view in the hold for ADD, or of a lane, is turned over at a place; then the difference must be told,
+   and shortly. Ten bits come into sending by three bytes, which is long, and so only where no place in sending is spoiled. */
 int main(int argc, char **argv)
 {
     static bench b;

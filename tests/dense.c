@@ -1,15 +1,18 @@
-/* Runs in which a level stands for many samples, as a fast scope takes them: a run through the door beside single steps and
-   beside the second program's run. */
-#include "door.h"
+/* Runs and drawings in which a level stands for many samples, as a fast scope takes them: a run through the door beside single
+   steps and beside the second program's run, a drawing beside the second program's. */
 #include "second.h"
 #include "slots.h"
 #include "traffic.h"
+#include "words.h"
 
 #include <stdio.h>
 #include <stdlib.h>
 #include <string.h>
 
 enum { IMAGE = DOOR_IMAGE, LONGEST = 4096, MEMORY = 256, BUF = 0, CON1 = 2, CON2 = 3, CON3 = 4, ADD = 5, FLAG = 7 };
+
+/* What can be spoilt: an item of a run, or a word of a drawing. */
+enum { SPOILT_RUN = 1, SPOILT_WORD };
 
 enum { LONG_RUN = 1000000 }; /* items from which on slots of every case and of every byte have to come up, and holds for ADD */
 
@@ -26,6 +29,7 @@ typedef struct {
     device before, stepped;
     int spoil;
     unsigned long items, runs, rows, calls, differences;
+    unsigned long words, calls_drawn, conflicts;  /* words of drawings, those of a handler call and of a conflict */
     unsigned long slots[SLOT_CASES];   /* rows after which a slot stands, by its case */
     unsigned long bytes[BYTES];        /* the same by the byte that it belongs to */
     unsigned long holds_for_add;       /* rows after which the clock is held for ADD */
@@ -46,17 +50,50 @@ static void step(bench *b, unsigned item)
         b->differences++;
 }
 
-/* How often a level is sampled: once, around a multiple of eight, or any number of times. */
-static unsigned some_times(traffic *t)
-{
-    unsigned pick = traffic_below(t, 4);
+/* ---- The run ---- */
 
-    if (pick == 0)
-        return 1;
-    return pick == 1 ? 1 + traffic_below(t, 70) : 8 * (1 + traffic_below(t, 4)) - 1 + traffic_below(t, 3);
+/* The levels of the trace without its handler calls; answers how many. */
+static size_t record_of(const bench *b, uint8_t *record)
+{
+    size_t length = 0, i;
+
+    for (i = 0; i < b->length; i++)
+        if (b->trace[i] != TRAFFIC_CALL)
+            record[length++] = b->trace[i];
+    return length;
 }
 
-/* ---- The run ---- */
+/* Counts the words of a drawing. */
+static void count_words(bench *b, const uint64_t *lanes, size_t length)
+{
+    size_t i;
+
+    b->words += length;
+    for (i = 0; i < length; i++) {
+        b->calls_drawn += (unsigned long)word_has(lanes[i], WORD_CALLED);
+        b->conflicts += (unsigned long)word_has(lanes[i], WORD_CONFLICT);
+    }
+}
+
+/* The door's drawing and the second program's over the levels of the trace, from the state that it began with. The handler calls
+   of the trace are none of theirs, so that they need not come to the stepped state. */
+static void compare_drawings(bench *b)
+{
+    static uint8_t record[LONGEST];
+    static uint64_t lanes[LONGEST], second_lanes[LONGEST];
+    device drawn = b->before, second = b->before;
+    word_scene s = {drawn.image, drawn.memory, MEMORY, 0, b->source.n};
+    size_t length = record_of(b, record);
+    int fine = word_took(word_draw(&s, record, length, lanes, LONGEST), length);
+
+    fine = fine && second_draw(second.image, IMAGE, second.memory, MEMORY, 0, b->source.n, record, length, second_lanes,
+                               LONGEST).items == length;
+    if (b->spoil == SPOILT_WORD && length > 0)
+        lanes[length / 2] ^= (uint64_t)1 << WORD_BUF;
+    count_words(b, second_lanes, length);
+    if (!fine || memcmp(&drawn, &second, sizeof drawn) != 0 || memcmp(lanes, second_lanes, length * sizeof lanes[0]) != 0)
+        b->differences++;
+}
 
 /* The door's run and the second program's over the trace, from the state that it began with. */
 static void compare(bench *b)
@@ -66,7 +103,8 @@ static void compare(bench *b)
 
     if (b->length == 0)
         return;
-    if (b->spoil && b->trace[b->length / 2] != TRAFFIC_CALL)
+    compare_drawings(b);
+    if (b->spoil == SPOILT_RUN && b->trace[b->length / 2] != TRAFFIC_CALL)
         b->trace[b->length / 2] ^= TRAFFIC_SDA;
     refusals = door.run(run.image, IMAGE, run.memory, MEMORY, 0, b->source.n, b->trace, b->length).refusal;
     refusals |= second_run(second.image, IMAGE, second.memory, MEMORY, 0, b->source.n, b->trace, b->length).refusal;
@@ -105,7 +143,7 @@ static void count_view(bench *b, const door_view *v)
 static int take(void *to, unsigned item)
 {
     bench *b = to;
-    unsigned times = item == TRAFFIC_CALL ? 1 : some_times(&b->source);
+    unsigned times = item == TRAFFIC_CALL ? 1 : traffic_times(&b->source);
     door_view v;
 
     if (b->length + times > LONGEST)
@@ -181,7 +219,7 @@ static int round_of(bench *b)
     return fine;
 }
 
-/* Whether slots of every case and of every byte have come up, and holds for ADD. */
+/* Whether slots of every case and of every byte have come up, and holds for ADD; in drawings handler calls and conflicts. */
 static int all_reached(const bench *b)
 {
     int i;
@@ -189,10 +227,10 @@ static int all_reached(const bench *b)
     for (i = 0; i < BYTES; i++)
         if (b->bytes[i] == 0)
             return 0;
-    return slots_all(b->slots) && b->holds_for_add > 0;
+    return slots_all(b->slots) && b->holds_for_add > 0 && b->calls_drawn > 0 && b->conflicts > 0;
 }
 
-/* The arguments: about how many items, a seed, and whether runs are spoilt, which has to be found. */
+/* The arguments: about how many items, a seed, and 1 or 2 where runs or words are spoilt, which has to be found. */
 int main(int argc, char **argv)
 {
     static bench b;
@@ -201,14 +239,15 @@ int main(int argc, char **argv)
 
     b.source.seed = argc > 2 ? strtoul(argv[2], NULL, 10) : 1;
     b.source.seed += b.source.seed == 0;
-    b.spoil = argc > 3 && strcmp(argv[3], "0") != 0;
+    b.spoil = argc > 3 ? atoi(argv[3]) : 0;
     b.source.take = take;
     b.source.to = &b;
     while (b.items < items && fine && (b.spoil || b.differences == 0))
         fine = round_of(&b);
-    printf("items %lu rows %lu calls %lu runs %lu ", b.items, b.rows, b.calls, b.runs);
+    printf("items %lu rows %lu calls %lu runs %lu words %lu of a call %lu of a conflict %lu ", b.items, b.rows, b.calls, b.runs,
+           b.words, b.calls_drawn, b.conflicts);
     slots_tell(b.slots);
     printf(" of a high byte %lu low byte %lu asking to send %lu held for ADD %lu differences %lu\n", b.bytes[BYTE_HIGH],
            b.bytes[BYTE_LOW], b.bytes[BYTE_HIGH_TO_SEND], b.holds_for_add, b.differences);
-    return fine && (items < LONG_RUN || all_reached(&b)) && (b.differences != 0) == b.spoil ? 0 : 1;
+    return fine && (items < LONG_RUN || all_reached(&b)) && (b.differences != 0) == (b.spoil != 0) ? 0 : 1;
 }

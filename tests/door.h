@@ -1,4 +1,4 @@
-/* The door a test goes through: a table of nine functions whose prefix is chosen when the test is compiled. */
+/* The door a test goes through: a table of ten functions whose prefix is chosen when the test is compiled. */
 #ifndef DOOR_H
 #define DOOR_H
 
@@ -21,9 +21,10 @@
 
 typedef DOOR(answer) door_answer;
 typedef DOOR(part) door_part;
+typedef DOOR(taken) door_taken;
 typedef DOOR(view) door_view;
 
-/* The nine functions. */
+/* The ten functions. */
 typedef struct {
     door_answer (*setup)(uint8_t *state, size_t state_length, uint8_t add, uint64_t n);
     door_answer (*read)(uint8_t *state, size_t state_length, uint32_t number);
@@ -34,13 +35,16 @@ typedef struct {
     door_answer (*run)(uint8_t *state, size_t state_length,
                        uint8_t *buffer, size_t buffer_length, uint64_t start, uint64_t n,
                        const uint8_t *trace, size_t trace_length);
+    door_taken (*draw)(uint8_t *state, size_t state_length,
+                       uint8_t *buffer, size_t buffer_length, uint64_t start, uint64_t n,
+                       const uint8_t *record, size_t record_length, uint64_t *lanes, size_t lanes_length);
     door_view (*look)(const uint8_t *state, size_t state_length);
     door_answer (*hit)(const uint8_t *state, size_t state_length, uint8_t byte);
     door_part (*find)(const uint8_t *record, size_t record_length, uint64_t item);
 } door_table;
 
 static const door_table door = {
-    DOOR(setup), DOOR(read), DOOR(write), DOOR(sample), DOOR(call), DOOR(run), DOOR(look), DOOR(hit), DOOR(find)
+    DOOR(setup), DOOR(read), DOOR(write), DOOR(sample), DOOR(call), DOOR(run), DOOR(draw), DOOR(look), DOOR(hit), DOOR(find)
 };
 
 /* The length of a state image. */

@@ -1,9 +1,9 @@
 /* Mangles images that random traffic reached: each is refused with 6 and left alone by every call, or taken as a state. */
-#include "door.h"
 #include "hits.h"
 #include "modes.h"
 #include "slots.h"
 #include "traffic.h"
+#include "words.h"
 #include "write_refusal.h"
 
 #include <stdio.h>
@@ -20,7 +20,7 @@ enum { BUFFER = 320, TRACE = 24, PER_ITEM = 3, EARLIER = 64 };
 /* What a call on bytes that are no state's must have, a write that changes the mode under way, and one that masks ten bits. */
 enum { NO_STATE = 6, MODE_UNDER_WAY = 8, MASKED = 9 };
 
-/* The calls that a mangled image goes through, beside look and hit. */
+/* The calls that a mangled image goes through, beside look, hit and draw. */
 enum { SETUP, READ, WRITE, SAMPLE, CALL, RUN };
 static const char *const names[6] = {"setup", "read", "write", "sample", "call", "run"};
 
@@ -238,17 +238,39 @@ static void single_calls(bench *b, const mangled *m, const window *w, unsigned r
     check(b, m, w, refusal, door.sample(lay(b, m), m->length, level), SAMPLE);
 }
 
-/* A handler call and a run; bytes that are no state's get them with a wrong window and a bad item too. */
+/* A drawing: refused, with the lanes left alone too, or done up to the shorter of record and lanes. */
+static void check_draw(bench *b, const mangled *m, const window *w, unsigned refusal, const uint8_t *record, size_t length)
+{
+    uint64_t lanes[TRACE], kept_lanes[TRACE];
+    size_t lent = below(b, TRACE + 1), count = refusal != 0 ? 0 : lent < length ? lent : length;
+    door_taken t;
+    int fine;
+
+    memset(lanes, FILLER, sizeof lanes);
+    memset(kept_lanes, FILLER, sizeof kept_lanes);
+    t = door.draw(lay(b, m), m->length, b->buffer, w->buffer_length, w->start, w->n, record, length, lanes, lent);
+    if (refusal != 0)
+        fine = word_refused(t, refusal, 0) && left_alone(b);
+    else
+        fine = word_took(t, count) && well_changed(b, w);
+    if (!fine || memcmp(lanes + count, kept_lanes + count, (TRACE - count) * sizeof lanes[0]) != 0)
+        fail(b, m, "draw");
+}
+
+/* A handler call, a run and a drawing; bytes that are no state's get them with a wrong window and a bad item too. */
 static void window_calls(bench *b, const mangled *m, const window *w, unsigned refusal)
 {
-    uint8_t trace[TRACE];
+    uint8_t trace[TRACE], record[TRACE];
     size_t length = below(b, TRACE + 1), i;
 
-    for (i = 0; i < length; i++)
+    for (i = 0; i < length; i++) {
         trace[i] = (uint8_t)below(b, refusal != 0 && w->n == 0 ? 256 : 5);
+        record[i] = refusal != 0 ? trace[i] : trace[i] & 3;
+    }
     check(b, m, w, refusal, door.call(lay(b, m), m->length, b->buffer, w->buffer_length, w->start, w->n), CALL);
     check(b, m, w, refusal,
           door.run(lay(b, m), m->length, b->buffer, w->buffer_length, w->start, w->n, trace, length), RUN);
+    check_draw(b, m, w, refusal, record, length);
 }
 
 /* Whether every field of a view but the refusal is 0. */

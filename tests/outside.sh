@@ -38,7 +38,7 @@ checked="-g -O1 -fsanitize=address,undefined -fno-sanitize-recover=undefined -DF
 second=tests/second/second.c
 plain=tests/second/plain.c
 as_second= # an example calls the second program's functions in place of the archive's
-for function in setup read write sample call run look hit find; do
+for function in setup read write sample call run draw look hit find; do
     as_second="$as_second -Dwherryoar_$function=second_$function"
 done
 
@@ -66,7 +66,7 @@ build_checked() {
     for source in $second $plain tests/traffic.c tests/player.c; do
         gcc $strict $checked -c -o "$out/checked/$(basename "$source" .c).o" "$source" || return 1
     done
-    for program in replay checks refusals ten_bit_rules sequences cut wirebytes capture agree dense mangle; do
+    for program in replay checks refusals ten_bit_rules draw sequences cut wirebytes capture agree dense mangle; do
         gcc $strict $checked -o "$out/checked_$program" tests/$program.c "$out"/checked/*.o || return 1
     done
     gcc $strict $checked -Iinclude $as_second -o "$out/checked_second_ten_bit" examples/ten_bit.c "$out/checked/second.o" ||
@@ -209,7 +209,7 @@ fuzz_report() {
 
 bench_checked() { # each way of feeding, at some samples per clock, and the wire
     local function
-    for function in wherryoar_run second_run wherryoar_sample second_sample; do
+    for function in wherryoar_run second_run wherryoar_sample second_sample wherryoar_draw second_draw; do
         "$out/checked_bench" "$function" 20 1 || return 1
     done
     "$out/checked_bench" 20 && "$out/checked_bench" wherryoar_sample 20 still || return 1
@@ -229,6 +229,7 @@ checked() {
     try checked_wirebytes_s "$out/checked_wirebytes" -s "$out/sigrok/random.bin"
     try checked_refusals "$out/checked_refusals"
     try checked_ten_bit_rules "$out/checked_ten_bit_rules"
+    try checked_draw "$out/checked_draw" 200000
     try checked_mangle "$out/checked_mangle" 100000
     if [ -z "$RUN" ]; then
         try checked_compare "$out/checked_compare" 200000

@@ -40,6 +40,22 @@ static pair_outcome part_of_second(second_part p)
     return o;
 }
 
+/* How far a drawing of the archive went. */
+static pair_outcome taken_of_archive(wherryoar_taken t)
+{
+    pair_outcome o = {t.refusal, 0, t.item, t.samples, t.items};
+
+    return o;
+}
+
+/* How far a drawing of the second program went. */
+static pair_outcome taken_of_second(second_taken t)
+{
+    pair_outcome o = {t.refusal, 0, t.item, t.samples, t.items};
+
+    return o;
+}
+
 /* The archive's view, field by field. */
 static second_view view_of_archive(wherryoar_view a)
 {
@@ -106,6 +122,9 @@ static pair_outcome archive_call(pair_side *a, const pair_step *s)
         return of_archive(wherryoar_setup(image, length, s->number, s->n));
     case PAIR_HIT:
         return of_archive(wherryoar_hit(image, length, s->value));
+    case PAIR_DRAW:
+        return taken_of_archive(wherryoar_draw(image, length, a->buffer, s->buffer_length, s->start, s->n,
+                                               s->bytes, s->count, a->lanes, s->lanes));
     default:
         return part_of_archive(wherryoar_find(s->bytes, s->count, s->start));
     }
@@ -133,6 +152,9 @@ static pair_outcome second_call_for(pair_side *a, const pair_step *s)
         return of_second(second_setup(image, length, s->number, s->n));
     case PAIR_HIT:
         return of_second(second_hit(image, length, s->value));
+    case PAIR_DRAW:
+        return taken_of_second(second_draw(image, length, a->buffer, s->buffer_length, s->start, s->n,
+                                           s->bytes, s->count, a->lanes, s->lanes));
     default:
         return part_of_second(second_find(s->bytes, s->count, s->start));
     }
@@ -140,15 +162,18 @@ static pair_outcome second_call_for(pair_side *a, const pair_step *s)
 
 /* ---- Both sides ---- */
 
-/* For the test of the test: one bit of the archive's side turned over once a byte has been sent up to its second bit, or in the
-   hold for ADD what follows it. */
-static void spoil(pair *p)
+/* For the test of the test: one bit of the archive's side turned over once a byte has been sent up to its second bit, in the
+   hold for ADD what follows it, or in the last word of a drawing that called the handler there. */
+static void spoil(pair *p, const pair_step *s)
 {
     const second_view *v = &p->second.view;
     int sending = v->refusal == 0 && v->phase == 6 && v->bits == 1, hold_for_add = v->refusal == 0 && v->phase == 8;
+    uint64_t words = s->kind == PAIR_DRAW ? p->second.outcome.length : 0;
 
     if (p->spoiled == PAIR_TEN_BITS && hold_for_add)
         p->archive.view.next ^= 0x01;
+    if (p->spoiled == PAIR_WORDS && words > 0 && (p->second.lanes[words - 1] & WHERRYOAR_WORD_CALLED))
+        p->archive.lanes[words - 1] ^= WHERRYOAR_WORD_STORED;
     if (!sending)
         return;
     if (p->spoiled == PAIR_ANSWER)
@@ -162,19 +187,21 @@ static void spoil(pair *p)
 }
 
 /* Looks at both states and compares all that is to be seen after a step. */
-static int compared(pair *p)
+static int compared(pair *p, const pair_step *s)
 {
     pair_side *a = &p->archive, *b = &p->second;
 
     a->view = view_of_archive(wherryoar_look(a->room + PAIR_GUARD, PAIR_IMAGE));
     b->view = second_look(b->room + PAIR_GUARD, PAIR_IMAGE);
-    spoil(p);
+    spoil(p, s);
     if (memcmp(&a->outcome, &b->outcome, sizeof a->outcome) != 0)
         return PAIR_ANSWER;
     if (memcmp(a->room, b->room, PAIR_ROOM) != 0)
         return PAIR_STATE;
     if (memcmp(a->buffer, b->buffer, PAIR_BUFFER) != 0)
         return PAIR_MEMORY;
+    if (s->kind == PAIR_DRAW && memcmp(a->lanes, b->lanes, sizeof a->lanes) != 0)
+        return PAIR_WORDS;
     return same_view(&a->view, &b->view) ? PAIR_SAME : PAIR_VIEW;
 }
 
@@ -190,23 +217,27 @@ static int place(pair *p, const pair_step *s)
     memcpy(p->second.room + PAIR_GUARD, s->bytes, PAIR_IMAGE);
     p->archive.outcome = of_archive(wherryoar_hit(s->bytes, PAIR_IMAGE, 0));
     p->second.outcome = of_second(second_hit(s->bytes, PAIR_IMAGE, 0));
-    differ = compared(p);
+    differ = compared(p, s);
     if (differ == PAIR_SAME && p->second.outcome.refusal != 0) {
         memcpy(p->archive.room + PAIR_GUARD, before, PAIR_IMAGE);
         memcpy(p->second.room + PAIR_GUARD, before, PAIR_IMAGE);
-        differ = compared(p);
+        differ = compared(p, s);
     }
     return differ;
 }
 
-/* A step on both. */
+/* A step on both; a drawing on lanes without words. */
 int pair_make(pair *p, const pair_step *s)
 {
     if (s->kind == PAIR_PLACE)
         return place(p, s);
+    if (s->kind == PAIR_DRAW) {
+        memset(p->archive.lanes, FILLER, sizeof p->archive.lanes);
+        memset(p->second.lanes, FILLER, sizeof p->second.lanes);
+    }
     p->archive.outcome = archive_call(&p->archive, s);
     p->second.outcome = second_call_for(&p->second, s);
-    return compared(p);
+    return compared(p, s);
 }
 
 /* Both afresh. */

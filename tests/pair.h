@@ -7,12 +7,15 @@
 #include <stddef.h>
 #include <stdint.h>
 
-/* An image with guard bytes around it; the longest length lent for it; a buffer; a step's own bytes. */
+/* An image with guard bytes around it; the longest length lent for it; a buffer; a step's own bytes; lanes, more than any step
+   is lent. */
 enum { PAIR_IMAGE = 48, PAIR_GUARD = 16, PAIR_LONGEST = 64, PAIR_ROOM = PAIR_GUARD + PAIR_LONGEST + PAIR_GUARD };
-enum { PAIR_BUFFER = 320, PAIR_BYTES = 64 };
+enum { PAIR_BUFFER = 320, PAIR_BYTES = 64, PAIR_LANES = PAIR_BYTES + 8 };
 
 /* What a step calls. */
-enum { PAIR_SAMPLE, PAIR_CALL, PAIR_READ, PAIR_WRITE, PAIR_RUN, PAIR_PLACE, PAIR_SETUP, PAIR_HIT, PAIR_FIND, PAIR_KINDS };
+enum {
+    PAIR_SAMPLE, PAIR_CALL, PAIR_READ, PAIR_WRITE, PAIR_RUN, PAIR_PLACE, PAIR_SETUP, PAIR_HIT, PAIR_FIND, PAIR_DRAW, PAIR_KINDS
+};
 
 /* One step; a field that its call has no use for is 0. */
 typedef struct {
@@ -20,24 +23,27 @@ typedef struct {
     uint8_t number;             /* sample: the level; read, write: the register; setup: ADD */
     uint8_t value;              /* write: the byte; hit: the first byte */
     uint8_t state_length;       /* the length lent for the state */
-    uint8_t count;              /* run, find: how many of the bytes below */
-    uint8_t bytes[PAIR_BYTES];  /* run: the trace; find: the record; place: the image that is put in */
-    uint64_t start, n;          /* call, run: the window; setup: n; find: start is the item number */
-    size_t buffer_length;       /* call, run: how much of the buffer is lent */
+    uint8_t count;              /* run, find, draw: how many of the bytes below */
+    uint8_t lanes;              /* draw: how many lanes are lent */
+    uint8_t bytes[PAIR_BYTES];  /* run: the trace; find, draw: the record; place: the image that is put in */
+    uint64_t start, n;          /* call, run, draw: the window; setup: n; find: start is the item number */
+    size_t buffer_length;       /* call, run, draw: how much of the buffer is lent */
 } pair_step;
 
-/* What a step gave, whichever call it was. */
+/* What a step gave, whichever call it was; of a drawing start is how many samples were taken, length how many words written. */
 typedef struct {
     uint64_t refusal, value, item, start, length;
 } pair_outcome;
 
-/* Where the two differ; PAIR_SAME where they do not. The last is none of these, but a part of the view that can be spoiled. */
-enum { PAIR_SAME, PAIR_ANSWER, PAIR_STATE, PAIR_MEMORY, PAIR_VIEW, PAIR_TEN_BITS };
+/* Where the two differ; PAIR_SAME where they do not. PAIR_TEN_BITS is none of these, but a part of the view that can be
+   spoiled. */
+enum { PAIR_SAME, PAIR_ANSWER, PAIR_STATE, PAIR_MEMORY, PAIR_VIEW, PAIR_TEN_BITS, PAIR_WORDS };
 
 /* One program's state and memory. */
 typedef struct {
     uint8_t room[PAIR_ROOM];
     uint8_t buffer[PAIR_BUFFER];
+    uint64_t lanes[PAIR_LANES]; /* of the last drawing */
     pair_outcome outcome;       /* of the last step */
     second_view view;           /* after the last step */
 } pair_side;

@@ -1,8 +1,8 @@
 /* Checks through the door every refusal by each of its causes, alone and beside every other, and windows at every edge. */
-#include "door.h"
 #include "hits.h"
 #include "modes.h"
 #include "slots.h"
+#include "words.h"
 #include "write_refusal.h"
 
 #include <stdio.h>
@@ -16,6 +16,8 @@ enum {
 };
 
 enum { GUARD = 16, LONGEST = 64, ROOM = GUARD + LONGEST + GUARD, FILLER = 0x5A, BUFFER = 320, N = 32, LONG_TRACE = 70000 };
+
+enum { LANES = 12 };
 
 /* States that the door itself makes; each cause of refusal 6 is a small change to one of them. */
 enum {
@@ -44,6 +46,7 @@ enum { WITH_FLAGS = KINDS, WITH_WCOL_SSPOV = 2 * KINDS, ALL_STATES = 4 * KINDS }
 static uint8_t states[ALL_STATES][DOOR_IMAGE];
 static uint8_t room[ROOM], kept[ROOM], buffer[BUFFER], untouched[BUFFER], trace[LONG_TRACE];
 static uint8_t *const image = room + GUARD;
+static uint64_t lanes[LANES], long_lanes[LONG_TRACE];
 static unsigned long checks, failures, causes;
 
 /* Counts a check and tells it when it fails. */
@@ -83,6 +86,34 @@ static int refused(door_answer a, unsigned refusal, uint64_t item)
 static int done(door_answer a)
 {
     return a.refusal == 0 && a.item == 0 && door.look(image, DOOR_IMAGE).refusal == 0;
+}
+
+/* Draws on the bytes in the room, with lanes that no word was written to. */
+static door_taken draw(size_t state_length, size_t buffer_length, uint64_t start, uint64_t n, const uint8_t *record, size_t count)
+{
+    memset(lanes, FILLER, sizeof lanes);
+    return door.draw(image, state_length, buffer_length == 0 ? NULL : buffer, buffer_length, start, n, record, count, lanes,
+                     LANES);
+}
+
+/* Whether the lanes from a place on are as they were. */
+static int lanes_left(size_t place)
+{
+    while (place < LANES && lanes[place] == UINT64_MAX / 255 * FILLER)
+        place++;
+    return place == LANES;
+}
+
+/* Whether a drawing was refused so, and nothing touched. */
+static int draw_refused(door_taken t, unsigned refusal, uint64_t item)
+{
+    return word_refused(t, refusal, item) && left_alone() && lanes_left(0);
+}
+
+/* Whether a drawing of so many items was done. */
+static int draw_done(door_taken t, size_t count)
+{
+    return word_took(t, count) && lanes_left(count) && door.look(image, DOOR_IMAGE).refusal == 0;
 }
 
 /* A write that must be taken. */
@@ -243,6 +274,8 @@ static void all_refuse(size_t length, const char *what, unsigned long more)
             expect(refused(door.call(image, length, buffer, BUFFER, starts[i], lengths[j]), 6, 0), what, more);
             expect(refused(door.run(image, length, buffer, BUFFER, starts[i], lengths[j], bad, 3), 6, 0), what, more);
             expect(refused(door.run(image, length, buffer, BUFFER, starts[i], lengths[j], bad, 1), 6, 0), what, more);
+            expect(draw_refused(draw(length, BUFFER, starts[i], lengths[j], bad, 3), 6, 0), what, more);
+            expect(draw_refused(draw(length, BUFFER, starts[i], lengths[j], bad, 1), 6, 0), what, more);
         }
 }
 
@@ -443,6 +476,7 @@ static void spoil_rest(void)
     expect(door.hit(NULL, 0, 0).refusal == 6, "no bytes at all, hit", 0);
     expect(door.call(NULL, 0, NULL, 0, 0, 1).refusal == 6, "no bytes at all, call", 0);
     expect(door.run(NULL, 0, NULL, 0, 0, 1, NULL, 0).refusal == 6, "no bytes at all, run", 0);
+    expect(word_refused(door.draw(NULL, 0, NULL, 0, 0, 1, NULL, 0, NULL, 0), 6, 0), "no bytes at all, draw", 0);
 }
 
 /* The bytes in the room are taken as a state: by look, and by hit for every first byte, GCEN 0 and 1, which answers by the
@@ -731,6 +765,20 @@ static int window_fits(uint64_t length, uint64_t start, uint64_t n, uint64_t wan
     return n == wanted && start <= length && n <= length - start;
 }
 
+/* One window through drawings: of a good record, of none, and with a bad level beside. */
+static void draw_window(const uint8_t *state, size_t length, uint64_t start, uint64_t n, int fits)
+{
+    static const uint8_t good[3] = {3, 2, 0}, bad[3] = {3, 2, 4};
+
+    lay(state);
+    expect(fits ? draw_done(draw(DOOR_IMAGE, length, start, n, good, 3), 3)
+                : draw_refused(draw(DOOR_IMAGE, length, start, n, good, 3), 5, 0), "draw: window", start);
+    lay(state);
+    expect(draw_refused(draw(DOOR_IMAGE, length, start, n, NULL, 0), fits ? 0 : 5, 0), "draw of no items: window", start);
+    expect(draw_refused(draw(DOOR_IMAGE, length, start, n, bad, 3), fits ? 4 : 5, fits ? 2 : 0),
+           "draw with a bad level: window", start);
+}
+
 /* One window through call and run, the run with a good trace, none, and a bad item beside. */
 static void window(const uint8_t *state, uint64_t wanted, size_t length, uint64_t start, uint64_t n)
 {
@@ -749,6 +797,7 @@ static void window(const uint8_t *state, uint64_t wanted, size_t length, uint64_
            "run of no items: window", start);
     expect(refused(door.run(image, DOOR_IMAGE, lent, length, start, n, bad, 3), fits ? 4 : 5, fits ? 2 : 0),
            "run with a bad item: window", start);
+    draw_window(state, length, start, n, fits);
 }
 
 /* Every start and every n at an edge, for one setup and one buffer length. */
@@ -787,7 +836,7 @@ static void windows(void)
     }
 }
 
-/* ---- Refusal 4 in a run, and the finder ---- */
+/* ---- Refusal 4 in a run, in a drawing, and the finder ---- */
 
 /* Bad items at every place, alone and in pairs: the first one's number is answered. */
 static void traces(void)
@@ -816,6 +865,52 @@ static void traces(void)
     expect(refused(door.run(image, DOOR_IMAGE, buffer, BUFFER, 0, N, trace, LONG_TRACE), 4, LONG_TRACE - 1),
            "run: the last of many items is bad", 0);
     expect(done(door.run(image, DOOR_IMAGE, buffer, BUFFER, 0, N, trace, LONG_TRACE - 1)), "run: many items", 0);
+}
+
+/* Bad levels at every place of a record, alone and in pairs; a handler call is one too, and so is every byte above 3, on a state
+   of every kind. */
+static void records(void)
+{
+    size_t length, first, second;
+    unsigned level;
+
+    for (length = 1; length < 8; length++)
+        for (first = 0; first < length; first++)
+            for (second = first; second < length; second++) {
+                memset(trace, 3, length);
+                trace[second] = 255;
+                trace[first] = 4;
+                lay(states[FRESH]);
+                expect(draw_refused(draw(DOOR_IMAGE, BUFFER, 0, N, trace, length), 4, first), "draw: 4", first);
+            }
+    for (level = 0; level < 256; level++)
+        for (first = 0; first < ALL_STATES; first++) {
+            trace[0] = (uint8_t)level;
+            lay(states[first]);
+            expect(level > 3 ? draw_refused(draw(DOOR_IMAGE, BUFFER, 0, N, trace, 1), 4, 0)
+                             : draw_done(draw(DOOR_IMAGE, BUFFER, 0, N, trace, 1), 1), "draw: level", level);
+        }
+}
+
+/* Bad levels at the end of a long record, and behind the items that lanes are there for, where they are not looked at. */
+static void long_records(void)
+{
+    size_t last = LONG_TRACE - 1;
+    door_taken t;
+
+    memset(trace, 3, LONG_TRACE);
+    trace[last] = 4;
+    lay(states[HELD_DATA]);
+    t = door.draw(image, DOOR_IMAGE, buffer, BUFFER, 0, N, trace, LONG_TRACE, long_lanes, LONG_TRACE);
+    expect(word_refused(t, 4, last) && left_alone(), "draw: the last of many levels is bad", 0);
+    t = door.draw(image, DOOR_IMAGE, buffer, BUFFER, 0, N, trace, LONG_TRACE, long_lanes, last);
+    expect(word_took(t, last), "draw: a bad level behind the lanes", 0);
+    trace[LANES] = 255;
+    lay(states[HELD_DATA]);
+    expect(draw_done(draw(DOOR_IMAGE, BUFFER, 0, N, trace, LONG_TRACE), LANES), "draw: more bad levels behind the lanes", 0);
+    trace[LANES - 1] = 4;
+    lay(states[HELD_DATA]);
+    expect(draw_refused(draw(DOOR_IMAGE, BUFFER, 0, N, trace, LONG_TRACE), 4, LANES - 1), "draw: the last lane's level", 0);
 }
 
 /* Whether the finder refuses so, and hands back the empty part at 0. */
@@ -910,6 +1005,8 @@ int main(void)
     masked();
     windows();
     traces();
+    records();
+    long_records();
     finder();
     setups();
     setups_anew();

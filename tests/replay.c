@@ -1,12 +1,13 @@
-/* Replays conformance cases through the door, step by step and again by whole stretches, and reports differences. */
-#include "door.h"
+/* Replays conformance cases through the door, step by step, again by whole stretches, and every row of samples again by a
+   drawing; reports differences. */
+#include "words.h"
 
 #include <stdio.h>
 #include <string.h>
 
 enum { LINE = 4096, TEXT = 256, GUARD = 16, MEMORY = 256, BUFFER = GUARD + MEMORY + GUARD, STRETCH = 4096 };
 
-enum { GUARD_BYTE = 0x5A, NO_WIRE = 255, HANDLER_CALL = 4, HIGHEST_REFUSAL = 9 };
+enum { GUARD_BYTE = 0x5A, NO_WIRE = 255, HANDLER_CALL = 4, HIGHEST_REFUSAL = 9, DRAWN = 128 };
 
 /* A state image with the buffer whose window it works on. */
 typedef struct {
@@ -21,12 +22,23 @@ typedef struct {
     int pulling;
 } sight;
 
+/* A drawing as written: its levels, how many lanes it is lent, the words that it has to give, or the item that refuses it. */
+typedef struct {
+    uint8_t levels[DRAWN];
+    size_t count;
+    unsigned lanes;
+    uint64_t words[DRAWN];
+    size_t items;
+    unsigned item;
+} drawing;
+
 /* One step as written: its letter, its numbers, and what follows it. */
 typedef struct {
     char letter;
     unsigned number; /* level, or register */
     unsigned value;
     unsigned refusal;
+    drawing draw;
     sight seen;
 } step;
 
@@ -37,11 +49,15 @@ typedef struct {
     scene before;            /* as live was when the stretch began */
     uint8_t trace[STRETCH];  /* the items of the stretch */
     size_t trace_length;
+    scene before_row;        /* as live was when the row of samples began */
+    uint8_t row[STRETCH];    /* their levels */
+    uint64_t shown[STRETCH]; /* what the case says is seen after each, as a word has it */
+    size_t row_length;
     unsigned n;
     unsigned long case_number, line_number;
     int open;   /* inside a case */
     int failed; /* the case has shown a difference, the rest of it is only parsed */
-    unsigned long cases, steps, differences;
+    unsigned long cases, steps, words, differences;
 } replay;
 
 /* ---- Reading a line: each takes its text off the front and answers whether it was there ---- */
@@ -227,6 +243,48 @@ static int seen(const char **p, unsigned n, sight *s)
     return decimal_field(p, 1, &v->due) && **p == '\0';
 }
 
+/* A word of 16 hex digits. */
+static int hex_word(const char **p, uint64_t *value)
+{
+    unsigned byte, i;
+
+    for (i = 0; i < 8; i++) {
+        if (!hex(p, &byte))
+            return 0;
+        *value = *value << 8 | byte;
+    }
+    return 1;
+}
+
+/* Levels with commas between them, - where there is none. */
+static int level_list(const char **p, drawing *d)
+{
+    unsigned level;
+
+    if (word(p, "-"))
+        return 1;
+    do {
+        if (d->count == DRAWN || !decimal(p, 255, &level))
+            return 0;
+        d->levels[d->count++] = (uint8_t)level;
+    } while (word(p, ","));
+    return 1;
+}
+
+/* Words with commas between them, to the end of the step; there may be none. */
+static int word_list(const char **p, drawing *d)
+{
+    if (strncmp(*p, " > ", 3) == 0)
+        return 1;
+    if (!word(p, " "))
+        return 0;
+    do {
+        if (d->items == DRAWN || !hex_word(p, &d->words[d->items++]))
+            return 0;
+    } while (word(p, ","));
+    return 1;
+}
+
 /* The part of a step before its " > ". */
 static int action(const char **p, step *s)
 {
@@ -235,6 +293,8 @@ static int action(const char **p, step *s)
         return decimal(p, 255, &s->number);
     if (word(p, "w "))
         return decimal(p, 255, &s->number) && word(p, " ") && hex(p, &s->value);
+    if (word(p, "d "))
+        return level_list(p, &s->draw) && word(p, " ") && decimal(p, DRAWN, &s->draw.lanes) && word_list(p, &s->draw);
     if (!word(p, "r "))
         return word(p, "h");
     if (!decimal(p, 255, &s->number))
@@ -248,8 +308,13 @@ static int parse_step(const char *p, unsigned n, step *s)
     memset(s, 0, sizeof *s);
     if (!action(&p, s) || !word(&p, " > "))
         return 0;
-    if (word(&p, "refused "))
-        return decimal(&p, HIGHEST_REFUSAL, &s->refusal) && s->refusal > 0 && *p == '\0';
+    if (word(&p, "refused ")) {
+        if (!decimal(&p, HIGHEST_REFUSAL, &s->refusal) || s->refusal == 0)
+            return 0;
+        if (s->letter == 'd' && word(&p, " at ") && !decimal(&p, DRAWN, &s->draw.item))
+            return 0;
+        return *p == '\0';
+    }
     return seen(&p, n, &s->seen);
 }
 
@@ -353,12 +418,91 @@ static void compare_bytes(replay *r, const char *what, const uint8_t *wanted, co
     differ(r, what, wanted_text, got_text);
 }
 
+/* Compares how far a drawing went with how far it should have gone. */
+static void compare_taken(replay *r, const char *what, door_taken t, unsigned refusal, uint64_t item, uint64_t count)
+{
+    char wanted[TEXT], got[TEXT];
+
+    if (t.refusal == refusal && t.item == item && t.samples == count && t.items == count)
+        return;
+    snprintf(wanted, TEXT, "refusal %u item %lu samples %lu items %lu", refusal, (unsigned long)item, (unsigned long)count,
+             (unsigned long)count);
+    snprintf(got, TEXT, "refusal %lu item %lu samples %lu items %lu", (unsigned long)t.refusal, (unsigned long)t.item,
+             (unsigned long)t.samples, (unsigned long)t.items);
+    differ(r, what, wanted, got);
+}
+
+/* Compares a word, or what it has of a state. */
+static void compare_word(replay *r, const char *what, size_t place, uint64_t wanted, uint64_t got)
+{
+    char wanted_text[TEXT], got_text[TEXT];
+
+    if (wanted == got)
+        return;
+    snprintf(wanted_text, TEXT, "word %lu is %016llX", (unsigned long)place, (unsigned long long)wanted);
+    snprintf(got_text, TEXT, "word %lu is %016llX", (unsigned long)place, (unsigned long long)got);
+    differ(r, what, wanted_text, got_text);
+}
+
 /* ---- Replaying ---- */
 
 /* Whether the case goes on being compared. */
 static int going(const replay *r)
 {
     return r->open && !r->failed;
+}
+
+/* A scene that a drawing is made on. */
+static word_scene drawn_on(const replay *r, scene *s)
+{
+    word_scene w = {s->image, s->buffer, BUFFER, GUARD, r->n};
+
+    return w;
+}
+
+/* A row of samples once more by a drawing, from where it began. Its words are those of the single calls. A case says nothing of
+   the calls that a drawing makes by itself: up to the first of them the words have what the case says, and where there is none
+   the state is that of the case. */
+static void draw_row(replay *r)
+{
+    static uint64_t lanes[STRETCH];
+    scene drawn = r->before_row, single = r->before_row;
+    word_scene d = drawn_on(r, &drawn), s = drawn_on(r, &single);
+    door_taken t = word_draw(&d, r->row, r->row_length, lanes, r->row_length);
+    int called = 0;
+    size_t i;
+
+    compare_taken(r, "answer of the drawing up to here", t, 0, 0, r->row_length);
+    for (i = 0; going(r) && i < r->row_length; i++) {
+        compare_word(r, "drawing up to here, beside single calls", i, word_singly(&s, r->row[i]), lanes[i]);
+        called = called || word_has(lanes[i], WORD_CALLED);
+        r->words += !called;
+        if (going(r) && !called)
+            compare_word(r, "drawing up to here, beside the case", i, r->shown[i], word_state(lanes[i]));
+    }
+    if (going(r))
+        compare_bytes(r, "image after the drawing", called ? single.image : r->live.image, drawn.image, DOOR_IMAGE);
+    if (going(r))
+        compare_bytes(r, "buffer after the drawing", called ? single.buffer : r->live.buffer, drawn.buffer, BUFFER);
+}
+
+/* Ends a row of samples. */
+static void end_row(replay *r)
+{
+    if (going(r) && r->row_length > 0)
+        draw_row(r);
+    r->row_length = 0;
+}
+
+/* Puts a sample into the row, with the scene before it and what is seen after it. */
+static void add_sample(replay *r, const scene *before, const step *s)
+{
+    if (r->row_length == 0)
+        r->before_row = *before;
+    r->row[r->row_length] = (uint8_t)s->number;
+    r->shown[r->row_length++] = word_of_view(&s->seen.view);
+    if (r->row_length == STRETCH)
+        end_row(r);
 }
 
 /* Ends a stretch: its items once more by one run, from where it began; then a new stretch begins. */
@@ -400,27 +544,52 @@ static door_answer make_step(replay *r, const step *s)
     return door.call(l->image, DOOR_IMAGE, l->buffer, BUFFER, GUARD, r->n);
 }
 
+/* Makes a drawing of a case on the live state and compares how far it went, its words and the lanes behind them. */
+static void make_drawing(replay *r, const drawing *d, unsigned refusal, const char *line)
+{
+    uint64_t lanes[DRAWN];
+    word_scene s = drawn_on(r, &r->live);
+    size_t i;
+
+    memset(lanes, GUARD_BYTE, sizeof lanes);
+    compare_taken(r, line, word_draw(&s, d->levels, d->count, lanes, d->lanes), refusal, d->item, d->items);
+    for (i = 0; going(r) && i < DRAWN; i++)
+        compare_word(r, line, i, i < d->items ? d->words[i] : UINT64_MAX / 255 * GUARD_BYTE, lanes[i]);
+}
+
+/* Makes one step on the live state and compares its answer. */
+static void answer_step(replay *r, const step *s, const char *line)
+{
+    if (s->letter == 'd')
+        make_drawing(r, &s->draw, s->refusal, line);
+    else
+        compare_answer(r, line, make_step(r, s), s->refusal, s->refusal == 0 && s->letter == 'r' ? s->value : 0);
+}
+
 /* Replays one step and compares its answer and all that is seen after it. */
 static void replay_step(replay *r, const step *s, const char *line)
 {
-    int in_stretch = s->refusal == 0 && (s->letter == 's' || s->letter == 'h');
+    int sample = s->refusal == 0 && s->letter == 's', in_stretch = sample || (s->refusal == 0 && s->letter == 'h');
+    int may_store = s->refusal == 0 && (s->letter == 'h' || s->letter == 'd');
     scene old;
-    door_answer a;
 
+    if (!sample)
+        end_row(r);
     if (!in_stretch)
         end_stretch(r);
     if (!going(r))
         return;
     r->steps++;
     old = r->live;
-    a = make_step(r, s);
-    compare_answer(r, line, a, s->refusal, s->refusal == 0 && s->letter == 'r' ? s->value : 0);
+    answer_step(r, s, line);
     if (going(r) && s->refusal != 0)
         compare_bytes(r, "image after a refusal", old.image, r->live.image, DOOR_IMAGE);
     if (going(r) && s->refusal == 0)
         compare_sight(r, line, &s->seen);
-    if (going(r) && (s->refusal != 0 || s->letter != 'h'))
+    if (going(r) && !may_store)
         compare_bytes(r, "buffer after a step that stores nothing", old.buffer, r->live.buffer, BUFFER);
+    if (sample)
+        add_sample(r, &old, s);
     if (in_stretch)
         add_item(r, (uint8_t)(s->letter == 'h' ? (unsigned)HANDLER_CALL : s->number));
     else
@@ -463,11 +632,12 @@ static int begin_case(replay *r, const char *p)
     if (going(r))
         compare_sight(r, "after setup", &wanted);
     r->trace_length = 0;
+    r->row_length = 0;
     r->before = r->live;
     return 1;
 }
 
-/* The line that ends a case: the last stretch, then memory and guard bytes. */
+/* The line that ends a case: the last row and stretch, then memory and guard bytes. */
 static int end_case(replay *r, const char *p)
 {
     uint8_t wanted[BUFFER];
@@ -478,6 +648,7 @@ static int end_case(replay *r, const char *p)
     memcpy(wanted + GUARD, r->fresh, r->n);
     if (!changed(p, r->n, wanted + GUARD))
         return 0;
+    end_row(r);
     end_stretch(r);
     if (going(r))
         compare_bytes(r, "buffer at the end (16 guard bytes, the memory, guard bytes)",
@@ -550,6 +721,6 @@ int main(int argc, char **argv)
         parsed = take_file(&r, file);
         fclose(file);
     }
-    printf("cases %lu steps %lu differences %lu\n", r.cases, r.steps, r.differences);
+    printf("cases %lu steps %lu words of drawings %lu differences %lu\n", r.cases, r.steps, r.words, r.differences);
     return parsed && r.cases > 0 && r.differences == 0 ? 0 : 1;
 }

@@ -58,24 +58,39 @@ static int drop_stretches(round_of_steps *r, size_t length)
     return dropped;
 }
 
-/* A step of a run as a step of its own. */
-static pair_step single(const pair_step *run, unsigned place)
+/* An item of a run as a step of its own; one of a drawing as a drawing of its own. */
+static pair_step single(const pair_step *whole, unsigned place)
 {
-    pair_step s = *run;
+    pair_step s = *whole;
 
-    s.kind = run->bytes[place] == HANDLER_CALL ? PAIR_CALL : PAIR_SAMPLE;
-    s.number = s.kind == PAIR_SAMPLE ? run->bytes[place] : 0;
+    if (whole->kind == PAIR_DRAW) {
+        s.bytes[0] = whole->bytes[place];
+        s.count = s.lanes = 1;
+        return s;
+    }
+    s.kind = whole->bytes[place] == HANDLER_CALL ? PAIR_CALL : PAIR_SAMPLE;
+    s.number = s.kind == PAIR_SAMPLE ? whole->bytes[place] : 0;
     s.count = 0;
     return s;
 }
 
-/* Puts a run's items in its place, one by one, where they fit and a difference stays. */
+/* How many items a run or a drawing takes; of a drawing of one, and of every other step, none can be split off. */
+static unsigned items_of(const pair_step *s)
+{
+    unsigned drawn = s->count < s->lanes ? s->count : s->lanes;
+
+    if (s->kind == PAIR_RUN)
+        return s->count;
+    return s->kind == PAIR_DRAW && drawn > 1 ? drawn : 0;
+}
+
+/* Puts the items of a run or a drawing in its place, one by one, where they fit and a difference stays. */
 static int split_run(round_of_steps *r, size_t at)
 {
     static round_of_steps candidate;
-    unsigned items = r->steps[at].count, i;
+    unsigned items = items_of(&r->steps[at]), i;
 
-    if (r->steps[at].kind != PAIR_RUN || items == 0 || r->count + items - 1 > ROUND_STEPS)
+    if (items == 0 || r->count + items - 1 > ROUND_STEPS)
         return 0;
     candidate = *r;
     memmove(&candidate.steps[at + items], &candidate.steps[at + 1],
@@ -97,7 +112,34 @@ static int split_some_run(round_of_steps *r)
     return 0;
 }
 
-/* Drops and splits. */
+/* Drops so many items in a row from a drawing, wherever a difference stays. */
+static void drop_items(round_of_steps *r, size_t at, unsigned length)
+{
+    static round_of_steps candidate;
+    pair_step *s = &candidate.steps[at];
+    unsigned from = 0;
+
+    while (at < r->count && r->steps[at].kind == PAIR_DRAW && from + length <= r->steps[at].count) {
+        candidate = *r;
+        s->count = (uint8_t)(s->count - length);
+        memmove(s->bytes + from, s->bytes + from + length, s->count - from);
+        if (!take_if_differing(r, &candidate))
+            from += length;
+    }
+}
+
+/* Drops items from every drawing, many in a row and then few. */
+static void shorten_drawings(round_of_steps *r)
+{
+    unsigned length;
+    size_t i;
+
+    for (length = PAIR_BYTES / 2; length > 0; length /= 2)
+        for (i = 0; i < r->count; i++)
+            drop_items(r, i, length);
+}
+
+/* Drops, splits and shortens. */
 void round_shrink(round_of_steps *r)
 {
     static round_of_steps whole;
@@ -113,6 +155,7 @@ void round_shrink(round_of_steps *r)
         while (drop_stretches(r, 1))
             continue;
     } while (split_some_run(r));
+    shorten_drawings(r);
 }
 
 /* ---- Telling ---- */
@@ -159,7 +202,7 @@ static void tell_view(const second_view *v)
     printf(" %u %u %u %u", v->mark, v->full, v->pointer, v->due);
 }
 
-/* The window of a call or a run, where it is not the round's own. */
+/* The window of a call, a run or a drawing, where it is not the round's own. */
 static void tell_window(const round_of_steps *r, const pair_step *s)
 {
     if (s->start != r->start || s->n != r->n || s->buffer_length != PAIR_BUFFER)
@@ -176,8 +219,20 @@ static void tell_items(const pair_step *s)
         printf("%s%u", i == 0 ? "" : ",", s->bytes[i]);
 }
 
+/* A drawing: its levels, how many lanes it was lent, and the words that it gave. */
+static void tell_draw(const pair_step *s, const pair_side *side)
+{
+    uint64_t i;
+
+    printf("d %s", s->count == 0 ? "-" : "");
+    tell_items(s);
+    printf(" %u", s->lanes);
+    for (i = 0; i < side->outcome.length; i++)
+        printf("%s%016llX", i == 0 ? " " : ",", (unsigned long long)side->lanes[i]);
+}
+
 /* What a step does; a read tells what it gave. */
-static void tell_step(const round_of_steps *r, const pair_step *s, const pair_outcome *o)
+static void tell_step(const round_of_steps *r, const pair_step *s, const pair_side *side)
 {
     if (s->kind == PAIR_SAMPLE) {
         printf("s %u", s->number);
@@ -186,8 +241,8 @@ static void tell_step(const round_of_steps *r, const pair_step *s, const pair_ou
         tell_window(r, s);
     } else if (s->kind == PAIR_READ) {
         printf("r %u", s->number);
-        if (o->refusal == 0)
-            printf(" %02X", (unsigned)o->value);
+        if (side->outcome.refusal == 0)
+            printf(" %02X", (unsigned)side->outcome.value);
     } else if (s->kind == PAIR_WRITE) {
         printf("w %u %02X", s->number, s->value);
     } else if (s->kind == PAIR_RUN) {
@@ -201,6 +256,9 @@ static void tell_step(const round_of_steps *r, const pair_step *s, const pair_ou
         printf("setup add %02X n %llu", s->number, (unsigned long long)s->n);
     } else if (s->kind == PAIR_HIT) {
         printf("hit %02X", s->value);
+    } else if (s->kind == PAIR_DRAW) {
+        tell_draw(s, side);
+        tell_window(r, s);
     } else {
         printf("find %llu in ", (unsigned long long)s->start);
         tell_items(s);
@@ -216,7 +274,7 @@ static void tell_outcome(const pair_step *s, const pair_side *side)
 
     if (o->refusal != 0)
         printf("refused %lu", (unsigned long)o->refusal);
-    if (o->refusal == 4 && (s->kind == PAIR_RUN || s->kind == PAIR_FIND))
+    if (o->refusal == 4 && (s->kind == PAIR_RUN || s->kind == PAIR_FIND || s->kind == PAIR_DRAW))
         printf(" at %llu", (unsigned long long)o->item);
     if (o->refusal != 0)
         return;
@@ -239,10 +297,22 @@ static void tell_byte(const char *what, const uint8_t *archive, const uint8_t *s
         printf("# byte %lu of the %s: archive %02X, second program %02X\n", (unsigned long)i, what, archive[i], second[i]);
 }
 
+/* The first lane that differs. */
+static void tell_lane(const uint64_t *archive, const uint64_t *second)
+{
+    size_t i = 0;
+
+    while (i < PAIR_LANES && archive[i] == second[i])
+        i++;
+    if (i < PAIR_LANES)
+        printf("# lane %lu: archive %016llX, second program %016llX\n", (unsigned long)i, (unsigned long long)archive[i],
+               (unsigned long long)second[i]);
+}
+
 /* Where the two differ after the last step, as remarks. */
 static void tell_difference(const pair *p, int differ)
 {
-    static const char *const places[5] = {"nothing", "the answer", "the state", "the buffer", "the view"};
+    static const char *const places[7] = {"nothing", "the answer", "the state", "the buffer", "the view", "", "the lanes"};
     const pair_outcome *a = &p->archive.outcome, *b = &p->second.outcome;
 
     printf("# the last step differs in %s\n", places[differ]);
@@ -254,6 +324,8 @@ static void tell_difference(const pair *p, int differ)
                (unsigned long long)b->start, (unsigned long long)b->length);
     tell_byte("room of 16 guard bytes and the state", p->archive.room, p->second.room, PAIR_ROOM);
     tell_byte("buffer", p->archive.buffer, p->second.buffer, PAIR_BUFFER);
+    if (differ == PAIR_WORDS)
+        tell_lane(p->archive.lanes, p->second.lanes);
     printf("# archive: ");
     tell_view(&p->archive.view);
     printf("; which %u next %u\n", p->archive.view.which, p->archive.view.next);
@@ -285,7 +357,7 @@ size_t round_tell(const round_of_steps *r)
     printf("\n");
     for (i = 0; i < r->count && differ == PAIR_SAME; i++) {
         differ = pair_make(&p, &r->steps[i]);
-        tell_step(r, &r->steps[i], &p.second.outcome);
+        tell_step(r, &r->steps[i], &p.second);
         printf(" > ");
         tell_outcome(&r->steps[i], &p.second);
         printf("\n");

@@ -10,11 +10,11 @@ cd "$(dirname "$0")/.." || exit 2
 out=$(pwd)/target/tests
 mkdir -p "$out"
 strict="-Wall -Wextra -Wpedantic -Werror"
-steps=20000000 mutations=4000000 dense=20000000
-[ -z "$RUN" ] || steps=1000000 mutations=1000000 dense=3000000 # an emulator is slow
+steps=20000000 mutations=4000000 dense=20000000 drawn=3000000
+[ -z "$RUN" ] || steps=1000000 mutations=1000000 dense=3000000 drawn=300000 # an emulator is slow
 case ${1:-} in
 "") quick= ;;
-quick) quick=yes steps=200000 mutations=100000 dense=200000 ;;
+quick) quick=yes steps=200000 mutations=100000 dense=200000 drawn=200000 ;;
 *) echo "usage: run.sh [quick]" >&2; exit 2 ;;
 esac
 door="-Iinclude -Itests -Itests/second -DDOOR_PREFIX=wherryoar_ -DDOOR_HEADER=\"wherryoar.h\""
@@ -48,6 +48,7 @@ through_the_door() { # through_the_door with_archive|with_second
     beside "checks_$1" "$1" checks ""
     beside "refusals_$1" "$1" refusals ""
     beside "ten_bit_rules_$1" "$1" ten_bit_rules ""
+    beside "draw_$1" "$1" draw tests/traffic.c "$drawn"
     beside "agree_$1" "$1" agree "tests/second/plain.c tests/traffic.c" 400000
     beside "replay_$1" "$1" replay "" tests/vectors/request-9.txt
 }
@@ -92,8 +93,8 @@ report_cases() {
 # ---- With the archive ----
 
 # The archive and the second program side by side. Then the test of that test: a bit turned over in the archive's answer (1),
-# state (2), buffer (3) or view (4), or in its view in the hold for ADD (5), has to be told, in a few steps that are a case of
-# the stored form.
+# state (2), buffer (3) or view (4), in its view in the hold for ADD (5), or in a lane (6), has to be told, in a few steps that
+# are a case of the stored form.
 build_compare() {
     $CC_ARCHIVE -std=c99 -O2 $strict -Iinclude -Itests -Itests/second -o "$out/compare" \
         tests/compare.c tests/round.c tests/pair.c tests/traffic.c "$out/second.o" "$archive"
@@ -106,16 +107,17 @@ compared() {
     local place
     try build_compare build_compare
     try compare $RUN "$out/compare" "$steps"
-    for place in 1 2 3 4 5; do
+    for place in 1 2 3 4 5 6; do
         try "spoiled_$place" spoiled "$place"
     done
 }
 
-# Runs in which a level stands for many samples; then runs spoilt on purpose, which has to be found.
+# Runs and drawings in which a level stands for many samples; then runs, and words, spoilt on purpose, which has to be found.
 dense_runs() {
     try build_dense build dense tests/dense.c tests/traffic.c "$out/second.o"
     try dense $RUN "$out/dense" "$dense"
     try spoiled_dense $RUN "$out/dense" 200000 7 1
+    try spoiled_dense_words $RUN "$out/dense" 200000 7 2
 }
 
 # Samples that leave every byte, on states in memory that may only be read.
@@ -124,7 +126,7 @@ still_samples() {
     try still $RUN "$out/still" 20000
 }
 
-# What the header says of the archive as a whole: nine functions, nothing called, no memory of its own.
+# What the header says of the archive as a whole: ten functions, nothing called, no memory of its own.
 alone() {
     local functions others calls variables
     functions=$($NM -g "$archive" | grep -c ' T wherryoar_')
@@ -132,7 +134,7 @@ alone() {
     calls=$($NM -u "$archive" | grep -c ' [Uwv] ')
     variables=$($NM "$archive" | grep -c ' [BbCDdGgSs] ')
     echo "functions $functions, other names it offers $others, names it calls $calls, variables $variables"
-    [ "$functions $others $calls $variables" = "9 0 0 0" ]
+    [ "$functions $others $calls $variables" = "10 0 0 0" ]
 }
 
 # Installed in a folder of its own, and from there the hosts in examples/.
@@ -142,10 +144,16 @@ installed() {
     prefix=$(mktemp -d) || return 1
     tools/install.sh "$prefix" && flags=$(PKG_CONFIG_PATH="$prefix/lib/pkgconfig" pkg-config --cflags --libs wherryoar) &&
         $CC_ARCHIVE -std=c99 -O2 $strict -o "$out/lanes" examples/lanes.c $flags &&
-        $CC_ARCHIVE -std=c99 -O2 $strict -o "$out/ten_bit" examples/ten_bit.c $flags
+        $CC_ARCHIVE -std=c99 -O2 $strict -o "$out/ten_bit" examples/ten_bit.c $flags &&
+        $CC_ARCHIVE -std=c99 -O2 $strict -o "$out/example_draw" examples/draw.c $flags
     status=$?
     rm -rf "$prefix"
     return $status
+}
+
+# The example that draws a record of its own prints what is stored.
+same_drawing() { # same_drawing HOST..
+    "$@" >"$out/draw.out" && diff "$out/draw.out" examples/draw.out && echo "as in examples/draw.out"
 }
 
 as_a_whole() {
@@ -153,6 +161,7 @@ as_a_whole() {
     try installed installed
     try lanes same_picture lanes $RUN "$out/lanes"
     try ten_bit same_picture ten_bit $RUN "$out/ten_bit"
+    try example_draw same_drawing $RUN "$out/example_draw"
     try stack tools/stack.sh
 }
 

@@ -110,6 +110,18 @@ static int byte(traffic *t, unsigned value, unsigned ninth)
     return 1;
 }
 
+/* How often a level is sampled: once, around a multiple of eight, or any number of times; seldom very often. */
+unsigned traffic_times(traffic *t)
+{
+    unsigned pick = traffic_below(t, 4);
+
+    if (traffic_once_in(t, 400))
+        return 300 + traffic_below(t, 1500);
+    if (pick == 0)
+        return 1;
+    return pick == 1 ? 1 + traffic_below(t, 70) : 8 * (1 + traffic_below(t, 4)) - 1 + traffic_below(t, 3);
+}
+
 /* ---- Messages ---- */
 
 /* An ADD: 30, any, or now and then 00 or 01, with which the byte 00 is the device's own address. */

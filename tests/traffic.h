@@ -34,6 +34,9 @@ void traffic_choose_ten(traffic *t, int ten);
    next. */
 uint8_t traffic_update(traffic *t, unsigned next);
 
+/* How often a dense record has a level. */
+unsigned traffic_times(traffic *t);
+
 /* A message, well formed unless cut short; it ends with a Stop, with the next Start, or with nothing. */
 void traffic_message(traffic *t);
 

@@ -6,11 +6,18 @@
 #include "promise.h"
 #include "step.h"
 #include "target.h"
+#include "words.h"
 #include "write_refusal.h"
 
 #include <string.h>
 
 enum { IMAGE = 48, LONGEST_IMAGE = 64, LONGEST_BUFFER = 300, LONGEST_BYTES = 4096, GUARD_BYTE = 0xA5, HANDLER_CALL = 4 };
+
+/* The longest record of a drawing, and the most lanes: fifteen words of a message, each level up to four times. */
+enum { LONGEST_LANES = 1200 };
+
+/* The bytes that choose a drawing; at that place no input stored before there were drawings has one of them. */
+enum { FIRST_DRAW = 140, LAST_DRAW = 171 };
 
 enum { STAT = 1, CON1 = 2, ADD = 5, UA = 0x02, MODE_UNDER_WAY = 8, HIGHEST_REFUSAL = 9, SLOT = 4, HELD_ADD = 8 };
 
@@ -33,10 +40,13 @@ typedef struct {
     step_function *make;
     uint8_t image[LONGEST_IMAGE];
     uint8_t buffer[LONGEST_BUFFER];
+    uint64_t lanes[LONGEST_LANES];
 } program;
 
-/* How often the second program came to each moment, and a hit to each answer. */
-static unsigned long reached[MOMENTS], hits[HITS];
+/* How often the second program came to each moment, a hit to each answer, a word to each of what happens at an item, and a call
+   of a drawing to the hold for ADD. */
+enum { HAPPENS = WORD_CONFLICT - WORD_CALLED + 1 };
+static unsigned long reached[MOMENTS], hits[HITS], happened[HAPPENS], calls_for_add;
 
 /* ---- From bytes to calls ---- */
 
@@ -187,6 +197,36 @@ static uint8_t first_byte(source *s, const program *p)
     return hit_byte(p->image, pick, next(s));
 }
 
+/* The levels of a record, each so many times; what is no level of a trace, its handler calls, is left out. */
+static size_t record_of(const uint8_t *trace, size_t length, unsigned times, uint8_t *record)
+{
+    size_t count = 0, i;
+    unsigned again;
+
+    for (i = 0; i < length; i++)
+        for (again = 0; again < times && trace[i] != HANDLER_CALL; again++)
+            record[count++] = trace[i];
+    return count;
+}
+
+/* A drawing: of messages or of any levels, now and then with a bad one; the lanes mostly as many as the record has items. */
+static void drawing(source *s, const program *p, step *made, uint8_t *bytes)
+{
+    uint8_t trace[LONGEST_LANES], pick = next(s), lent = next(s);
+
+    if (pick % 4 == 0)
+        made->bytes_length = raw(s, bytes, 4);
+    else
+        made->bytes_length = record_of(trace, messages(s, p, trace), 1 + pick / 64u, bytes);
+    made->lanes_length = lent < 200 ? made->bytes_length : next(s);
+}
+
+/* Which function a byte chooses. */
+static int kind_of(uint8_t pick)
+{
+    return pick >= FIRST_DRAW && pick <= LAST_DRAW ? STEP_DRAW : pick % STEP_DRAW;
+}
+
 /* The next call. */
 static step next_step(source *s, const program *p, uint8_t *bytes)
 {
@@ -194,12 +234,12 @@ static step next_step(source *s, const program *p, uint8_t *bytes)
     uint64_t n = (uint64_t)(p->image[16] | p->image[17] << 8);
 
     memset(&made, 0, sizeof made);
-    made.which = next(s) % STEPS;
+    made.which = kind_of(next(s));
     made.state_length = state_length(s);
     made.bytes = bytes;
     if (made.which == STEP_SETUP)
         made.n = number(s, 1 + next(s) % 40u);
-    if (made.which == STEP_CALL || made.which == STEP_RUN)
+    if (made.which == STEP_CALL || made.which == STEP_RUN || made.which == STEP_DRAW)
         window(s, &made, n);
     if (made.which == STEP_RUN)
         made.bytes_length = next(s) % 4 == 0 ? raw(s, bytes, 5) : messages(s, p, bytes);
@@ -215,6 +255,8 @@ static step next_step(source *s, const program *p, uint8_t *bytes)
         made.value = (uint8_t)number(s, next(s) % 4);
     if (made.which == STEP_HIT)
         made.value = first_byte(s, p);
+    if (made.which == STEP_DRAW)
+        drawing(s, p, &made, bytes);
     return made;
 }
 
@@ -252,17 +294,22 @@ static outcome make(program *p, const step *s)
     uint8_t *image = lend(p->image, s->state_length);
     uint8_t *buffer = lend(p->buffer, s->buffer_length);
     uint8_t *bytes = lend(s->bytes, s->bytes_length);
+    size_t lanes_size = s->lanes_length * sizeof p->lanes[0];
+    uint8_t *lanes = lanes_size == 0 ? NULL : lend((const uint8_t *)p->lanes, lanes_size);
     uint8_t before[LONGEST_IMAGE];
     step lent = *s;
     outcome o;
 
     memcpy(before, p->image, LONGEST_IMAGE);
     lent.bytes = bytes;
+    lent.lanes = (uint64_t *)(void *)lanes;
     o = p->make(&lent, image, buffer);
     promise(s->bytes_length == 0 || memcmp(bytes, s->bytes, s->bytes_length) == 0, "trace and record are only read");
     take_back(image, p->image, s->state_length);
     take_back(buffer, p->buffer, s->buffer_length);
     take_back(bytes, NULL, s->bytes_length);
+    if (lanes != NULL)
+        take_back(lanes, (uint8_t *)p->lanes, lanes_size);
     if (p->make == second_step && o.refusal == 0 && s->which >= STEP_READ && s->which <= STEP_CALL)
         moments_count(reached, before, p->image);
     return o;
@@ -273,11 +320,11 @@ static outcome make(program *p, const step *s)
 /* Which refusals each function can have, a bit for each. */
 static const unsigned refusals[STEPS] = {
     1u << 6 | 1u << 5, 1u << 6 | 1u << 1, 1u << 6 | 1u << 1 | 1u << 2 | 1u << 3 | 1u << 8 | 1u << 9, 1u << 6 | 1u << 4,
-    1u << 6 | 1u << 5, 1u << 6 | 1u << 5 | 1u << 4, 1u << 6, 1u << 4 | 1u << 7, 1u << 6
+    1u << 6 | 1u << 5, 1u << 6 | 1u << 5 | 1u << 4, 1u << 6, 1u << 4 | 1u << 7, 1u << 6, 1u << 6 | 1u << 5 | 1u << 4
 };
 
 /* How many values each function can answer beside no refusal. */
-static const unsigned values[STEPS] = {1, 256, 1, 1, 1, 1, 1, 1, HITS};
+static const unsigned values[STEPS] = {1, 256, 1, 1, 1, 1, 1, 1, HITS, 1};
 
 /* The number of the first byte above a limit, or the length. */
 static size_t first_above(const uint8_t *bytes, size_t length, unsigned limit)
@@ -289,18 +336,29 @@ static size_t first_above(const uint8_t *bytes, size_t length, unsigned limit)
     return i;
 }
 
+/* Whether a function changes a state, and whether it can store. */
+static int changes(const step *s)
+{
+    return s->which < STEP_LOOK || s->which == STEP_DRAW;
+}
+static int stores(const step *s)
+{
+    return s->which == STEP_CALL || s->which == STEP_RUN || s->which == STEP_DRAW;
+}
+
 /* What an answer may say. */
 static void check_answer(const step *s, const outcome *o)
 {
-    unsigned highest = s->which == STEP_FIND ? 3 : 4;
-    int named = o->refusal == 4 && (s->which == STEP_RUN || s->which == STEP_FIND);
+    unsigned highest = s->which == STEP_RUN ? 4 : 3;
+    size_t looked_at = s->which == STEP_DRAW ? step_count(s) : s->bytes_length;
+    int named = o->refusal == 4 && s->which != STEP_SAMPLE;
     int i;
 
     promise(o->refusal <= HIGHEST_REFUSAL && (o->refusal == 0 || (refusals[s->which] >> o->refusal & 1)),
             "no refusal of this function");
     promise(o->value == 0 || (o->refusal == 0 && o->value < values[s->which]), "a value where there is none");
     if (named)
-        promise(o->item < s->bytes_length && o->item == first_above(s->bytes, s->bytes_length, highest), "first bad item");
+        promise(o->item < looked_at && o->item == first_above(s->bytes, looked_at, highest), "first bad item");
     else
         promise(o->item == 0, "an item where there is none");
     for (i = 0; i < SEEN && o->refusal != 0; i++)
@@ -325,19 +383,20 @@ static void check_hit(const program *before, const step *s, const outcome *o)
     hits[o->value]++;
 }
 
-/* A refusal leaves all, a look, a find and a hit too; the handler leaves what is outside its window. */
+/* A refusal leaves all, a look, a find and a hit too; the handler leaves what is outside its window, a drawing the lanes behind
+   its items. */
 static void check_kept(const program *before, const program *after, const step *s, const outcome *o)
 {
-    int changes = o->refusal == 0 && s->which < STEP_LOOK;
-    int stores = changes && (s->which == STEP_CALL || s->which == STEP_RUN);
-    size_t i;
+    size_t drawn = o->refusal == 0 && s->which == STEP_DRAW ? step_count(s) : 0, i;
 
-    if (!changes)
+    if (o->refusal != 0 || !changes(s))
         promise(memcmp(before->image, after->image, LONGEST_IMAGE) == 0, "a state that should have stayed");
     promise(memcmp(before->image + IMAGE, after->image + IMAGE, LONGEST_IMAGE - IMAGE) == 0, "bytes behind the state");
     for (i = 0; i < LONGEST_BUFFER; i++)
-        if (!stores || i < s->start || i >= s->start + s->n)
+        if (o->refusal != 0 || !stores(s) || i < s->start || i >= s->start + s->n)
             promise(before->buffer[i] == after->buffer[i], "a buffer byte that should have stayed");
+    promise(memcmp(before->lanes + drawn, after->lanes + drawn, (LONGEST_LANES - drawn) * sizeof after->lanes[0]) == 0,
+            "a lane that should have stayed");
 }
 
 /* The part lies in the record; it has the item in it, or is empty at the item. */
@@ -372,7 +431,7 @@ static void check_state(program *p, const step *s, const outcome *o)
     step look;
     outcome view;
 
-    if (o->refusal != 0 || s->which >= STEP_LOOK)
+    if (o->refusal != 0 || !changes(s))
         return;
     memset(&look, 0, sizeof look);
     look.which = STEP_LOOK;
@@ -402,6 +461,37 @@ static void check_run(const program *before, const program *after, const step *s
     promise(memcmp(single.buffer, after->buffer, LONGEST_BUFFER) == 0, "the buffer after a run and after its items");
 }
 
+/* Counts what the words of the second program show. */
+static void count_words(const program *p, size_t count)
+{
+    size_t i;
+    int place;
+
+    for (i = 0; p->make == second_step && i < count; i++) {
+        for (place = 0; place < HAPPENS; place++)
+            happened[place] += (unsigned long)word_has(p->lanes[i], WORD_CALLED + place);
+        calls_for_add += word_has(p->lanes[i], WORD_CALLED) && (p->lanes[i] >> WORD_PHASE & 0xF) == HELD_ADD;
+    }
+}
+
+/* A drawing takes all that it can, and is its single calls one by one. */
+static void check_draw(const program *before, const program *after, const step *s, const outcome *o)
+{
+    program single = *before;
+    step singly = *s;
+    size_t count = step_count(s);
+
+    if (s->which != STEP_DRAW || o->refusal != 0)
+        return;
+    promise(o->seen[0] == count && o->seen[1] == count, "samples and items of a drawing");
+    singly.which = STEP_SINGLY;
+    (void)make(&single, &singly);
+    promise(memcmp(single.lanes, after->lanes, count * sizeof single.lanes[0]) == 0, "the words of a drawing and of its calls");
+    promise(memcmp(single.image, after->image, LONGEST_IMAGE) == 0, "the state after a drawing and after its calls");
+    promise(memcmp(single.buffer, after->buffer, LONGEST_BUFFER) == 0, "the buffer after a drawing and after its calls");
+    count_words(after, count);
+}
+
 /* A call on one program with everything that is promised of it. */
 static outcome made_well(program *p, const step *s)
 {
@@ -415,6 +505,7 @@ static outcome made_well(program *p, const step *s)
     check_part(s, &o);
     check_state(p, s, &o);
     check_run(&before, p, s, &o);
+    check_draw(&before, p, s, &o);
     return o;
 }
 
@@ -436,12 +527,13 @@ static void disturb(source *s, program *p)
     }
 }
 
-/* A program with a fresh state and a zero buffer. */
+/* A program with a fresh state, a zero buffer and lanes without words. */
 static void fresh(program *p, step_function *make_step)
 {
     step setup;
 
     memset(p, 0, sizeof *p);
+    memset(p->lanes, GUARD_BYTE, sizeof p->lanes);
     p->make = make_step;
     memset(&setup, 0, sizeof setup);
     setup.which = STEP_SETUP;
@@ -464,6 +556,7 @@ static outcome made_by_all(program *first, program *other, const step *s)
     promise(memcmp(&o, &beside, sizeof o) == 0, "archive and second program answer the same");
     promise(memcmp(first->image, other->image, LONGEST_IMAGE) == 0, "archive and second program leave the same state");
     promise(memcmp(first->buffer, other->buffer, LONGEST_BUFFER) == 0, "archive and second program store the same");
+    promise(memcmp(first->lanes, other->lanes, sizeof first->lanes) == 0, "archive and second program draw the same");
 #else
     (void)other;
     o = made_well(first, s);
@@ -471,13 +564,32 @@ static outcome made_by_all(program *first, program *other, const step *s)
     return o;
 }
 
-/* Tells the answers of hit and the moments of tests/moments.h; answers whether each has come. */
+/* Tells what has come of a word, inside a line; answers whether each has. */
+static int words_reached(void)
+{
+    static const char *const names[HAPPENS] = {"called", "stored", "Start", "Stop", "conflict"};
+    int i, all = calls_for_add > 0;
+
+    printf("words");
+    for (i = 0; i < HAPPENS; i++) {
+        printf(" %s %lu", names[i], happened[i]);
+        all = all && happened[i] > 0;
+    }
+    printf(" called in the hold for ADD %lu", calls_for_add);
+    return all;
+}
+
+/* Tells the answers of hit, what has come of a word and the moments of tests/moments.h; answers whether each has come. */
 int target_reached(void)
 {
+    int words;
+
     hits_tell(hits);
     printf("; ");
+    words = words_reached();
+    printf("; ");
     moments_tell(reached);
-    return hits_all(hits) && moments_all(reached);
+    return words && hits_all(hits) && moments_all(reached);
 }
 
 /* All calls of one input; an image that was no state is put back after the call that it was refused by. */

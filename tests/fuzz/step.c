@@ -1,6 +1,6 @@
 /* Makes one call through the door; compiled once for each program, with its prefix. */
-#include "door.h"
 #include "step.h"
+#include "words.h"
 
 #include <string.h>
 
@@ -14,6 +14,29 @@ static void see_view(const door_view *v, uint64_t *seen)
     };
 
     memcpy(seen, fields, sizeof fields);
+}
+
+/* A drawing, or the same by single calls. */
+static outcome draw(const step *s, uint8_t *image, uint8_t *buffer)
+{
+    word_scene scene = {image, buffer, s->buffer_length, s->start, s->n};
+    outcome o;
+    size_t i;
+
+    memset(&o, 0, sizeof o);
+    if (s->which == STEP_DRAW) {
+        door_taken t = door.draw(image, s->state_length, buffer, s->buffer_length, s->start, s->n, s->bytes, s->bytes_length,
+                                 s->lanes, s->lanes_length);
+
+        o.refusal = t.refusal;
+        o.item = t.item;
+        o.seen[0] = t.samples;
+        o.seen[1] = t.items;
+        return o;
+    }
+    for (i = 0; i < step_count(s); i++)
+        s->lanes[i] = word_singly(&scene, s->bytes[i]);
+    return o;
 }
 
 /* The view and the part. */
@@ -69,6 +92,8 @@ outcome DOOR(step)(const step *s, uint8_t *image, uint8_t *buffer)
 
     if (s->which == STEP_LOOK || s->which == STEP_FIND)
         return see(s, image);
+    if (s->which == STEP_DRAW || s->which == STEP_SINGLY)
+        return draw(s, image, buffer);
     memset(&o, 0, sizeof o);
     a = ask(s, image, buffer);
     o.refusal = a.refusal;

@@ -499,8 +499,8 @@ static uint8_t wire_of(const module *m, uint8_t level)
     return (uint8_t)wire;
 }
 
-/* One sample; the first ever, and all while disabled, are only remembered. */
-static void sample(module *m, uint8_t level)
+/* One sample; the first ever, and all while disabled, are only remembered. Answers the condition that it was. */
+static int sample(module *m, uint8_t level)
 {
     uint8_t before = m->wire;
     uint8_t now = wire_of(m, level);
@@ -508,19 +508,20 @@ static void sample(module *m, uint8_t level)
 
     m->wire = now;
     if (before == NONE || !any(m, CON1, SSPEN))
-        return;
+        return NO_CONDITION;
     if ((before & SCL) != (now & SCL)) {
         if (now & SCL)
             rise(m, now & SDA);
         else
             fall(m);
-        return;
+        return NO_CONDITION;
     }
     seen = condition(before, now, m->mark);
     if (seen == START)
         start_seen(m);
     else if (seen == STOP)
         stop_seen(m);
+    return seen;
 }
 
 /* ---- Registers ---- */
@@ -624,39 +625,41 @@ static void handle_sending(module *m, const uint8_t *window, int is_address)
     pointer_on(m);
 }
 
-/* A data byte: the pointer if one is due, else stored at the pointer. */
-static void handle_data(module *m, uint8_t *window)
+/* A data byte: the pointer if one is due, else stored at the pointer. Answers whether it was stored. */
+static int handle_data(module *m, uint8_t *window)
 {
     uint8_t byte = read_register(m, BUF);
 
     if (m->due) {
         m->pointer = (uint16_t)(byte % m->n);
         m->due = 0;
-        return;
+        return 0;
     }
     window[m->pointer] = byte;
     pointer_on(m);
+    return 1;
 }
 
-/* One handler call over the window's n bytes; the case is read off STAT alone. */
-static void handler(module *m, uint8_t *window)
+/* One handler call over the window's n bytes; the case is read off STAT alone. Answers whether a byte was stored. */
+static int handler(module *m, uint8_t *window)
 {
-    int is_address = !any(m, STAT, DA);
+    int is_address = !any(m, STAT, DA), stored = 0;
 
     if (!any(m, FLAG, SSPIF))
-        return;
+        return 0;
     write_register(m, FLAG, 0);
     if (any(m, CON1, CKP))
-        return;
+        return 0;
     if (any(m, STAT, RW)) {
         handle_sending(m, window, is_address);
     } else if (is_address) {
         (void)read_register(m, BUF);
         m->due = 1;
     } else {
-        handle_data(m, window);
+        stored = handle_data(m, window);
     }
     write_register(m, CON1, (uint8_t)(m->reg[CON1] | CKP));
+    return stored;
 }
 
 /* ---- The state image ---- */
@@ -924,7 +927,7 @@ second_answer second_sample(uint8_t *state, size_t state_length, uint32_t level)
         return answer(NO_STATE, 0, 0);
     if (level > HIGHEST_LEVEL)
         return answer(NO_SUCH_LEVEL, 0, 0);
-    sample(&m, (uint8_t)level);
+    (void)sample(&m, (uint8_t)level);
     encode(&m, state);
     return answer(DONE, 0, 0);
 }
@@ -939,7 +942,7 @@ second_answer second_call(uint8_t *state, size_t state_length,
         return answer(NO_STATE, 0, 0);
     if (!window_fits(&m, buffer_length, start, n))
         return answer(NO_SUCH_WINDOW, 0, 0);
-    handler(&m, buffer + (size_t)start);
+    (void)handler(&m, buffer + (size_t)start);
     encode(&m, state);
     return answer(DONE, 0, 0);
 }
@@ -961,13 +964,89 @@ second_answer second_run(uint8_t *state, size_t state_length,
             return answer(NO_SUCH_LEVEL, 0, i);
     for (i = 0; i < trace_length; i++) {
         if (trace[i] == HANDLER_CALL)
-            handler(&m, buffer + (size_t)start);
+            (void)handler(&m, buffer + (size_t)start);
         else
-            sample(&m, trace[i]);
+            (void)sample(&m, trace[i]);
     }
     encode(&m, state);
     return answer(DONE, 0, 0);
 }
+
+/* ---- The drawing ---- */
+
+/* Where a word has its parts: the wire is in bits 0 and 1, STAT, phase, pointer and BUF have several bits. */
+enum {
+    WORD_SDA_PULLED = 2, WORD_SCL_PULLED = 3, WORD_PHASE = 4, WORD_STAT = 8, WORD_SSPIF = 16, WORD_CKP = 17, WORD_SSPOV = 18,
+    WORD_WCOL = 19, WORD_ACKSTAT = 20, WORD_ACKTIM = 21, WORD_CALLED = 22, WORD_STORED = 23, WORD_START = 24, WORD_STOP = 25,
+    WORD_CONFLICT = 26, WORD_POINTER = 32, WORD_BUF = 48
+};
+
+/* A number at its place in a word. */
+static uint64_t put(int place, int value)
+{
+    return (uint64_t)value << place;
+}
+
+/* What the word of an item has of the state after it. */
+static uint64_t state_in_word(const module *m)
+{
+    uint64_t word = m->wire;
+
+    word |= put(WORD_SDA_PULLED, sda_pulled(m)) | put(WORD_SCL_PULLED, clock_held(m)) | put(WORD_PHASE, m->phase);
+    word |= put(WORD_STAT, shown(m, STAT)) | put(WORD_SSPIF, any(m, FLAG, SSPIF));
+    word |= put(WORD_CKP, any(m, CON1, CKP)) | put(WORD_SSPOV, any(m, CON1, SSPOV)) | put(WORD_WCOL, any(m, CON1, WCOL));
+    word |= put(WORD_ACKSTAT, any(m, CON2, ACKSTAT)) | put(WORD_ACKTIM, any(m, CON3, ACKTIM));
+    return word | put(WORD_POINTER, m->pointer) | put(WORD_BUF, m->reg[BUF]);
+}
+
+/* One item of a wire record: a call where the clock is held and the record shows SCL high, then the sample; answers its word. */
+static uint64_t draw_item(module *m, uint8_t *window, uint8_t level)
+{
+    uint64_t word = 0;
+    int seen;
+
+    if ((level & SCL) && clock_held(m))
+        word = put(WORD_CALLED, 1) | put(WORD_STORED, handler(m, window));
+    word |= put(WORD_CONFLICT, level == (SCL | SDA) && sda_pulled(m));
+    seen = sample(m, level);
+    word |= put(WORD_START, seen == START) | put(WORD_STOP, seen == STOP);
+    return word | state_in_word(m);
+}
+
+/* How far a drawing went, with its fields; as many words as samples. */
+static second_taken taken(int refusal, uint64_t item, uint64_t samples)
+{
+    second_taken t;
+
+    t.refusal = (uint32_t)refusal;
+    t.item = item;
+    t.samples = samples;
+    t.items = samples;
+    return t;
+}
+
+/* A drawing of a wire record: opened once, as many items as record and lanes both have, laid out once. */
+second_taken second_draw(uint8_t *state, size_t state_length,
+                         uint8_t *buffer, size_t buffer_length, uint64_t start, uint64_t n,
+                         const uint8_t *record, size_t record_length, uint64_t *lanes, size_t lanes_length)
+{
+    module m;
+    size_t count = record_length < lanes_length ? record_length : lanes_length, i;
+
+    if (!decode(&m, state, state_length))
+        return taken(NO_STATE, 0, 0);
+    if (!window_fits(&m, buffer_length, start, n))
+        return taken(NO_SUCH_WINDOW, 0, 0);
+    for (i = 0; i < count; i++)
+        if (record[i] > HIGHEST_LEVEL)
+            return taken(NO_SUCH_LEVEL, i, 0);
+    for (i = 0; i < count; i++)
+        lanes[i] = draw_item(&m, buffer + (size_t)start, record[i]);
+    encode(&m, state);
+    return taken(DONE, 0, count);
+}
+
+/* ---- Looking ---- */
 
 /* What the scope draws of a state; changes nothing. */
 second_view second_look(const uint8_t *state, size_t state_length)

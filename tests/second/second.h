@@ -25,6 +25,15 @@ typedef struct {
     uint64_t length;
 } second_part;
 
+/* How far a drawing went: samples items of the record were taken and items words written, both 0 after a refusal; item is the
+   first bad level for refusal 4. */
+typedef struct {
+    uint32_t refusal;
+    uint64_t item;
+    uint64_t samples;
+    uint64_t items;
+} second_taken;
+
 /* What the scope draws of a state; on a refusal all other fields are 0. */
 typedef struct {
     uint32_t refusal;
@@ -51,6 +60,9 @@ second_answer second_call(uint8_t *state, size_t state_length,
 second_answer second_run(uint8_t *state, size_t state_length,
                          uint8_t *buffer, size_t buffer_length, uint64_t start, uint64_t n,
                          const uint8_t *trace, size_t trace_length);
+second_taken second_draw(uint8_t *state, size_t state_length,
+                         uint8_t *buffer, size_t buffer_length, uint64_t start, uint64_t n,
+                         const uint8_t *record, size_t record_length, uint64_t *lanes, size_t lanes_length);
 second_view second_look(const uint8_t *state, size_t state_length);
 second_answer second_hit(const uint8_t *state, size_t state_length, uint8_t byte);
 second_part second_find(const uint8_t *record, size_t record_length, uint64_t item);
