@@ -23,6 +23,10 @@ WRONG = [
     ("empty items", "items", b"", "empty"),
     ("empty binary", "binary", b"", "empty"),
     ("empty VCD", "vcd", b"", "empty"),
+    ("a zip as binary", "binary", b"PK\3\4" + bytes(40), "looks like a zip"),
+    ("digits as binary", "binary", b"3202\n", "looks like digits"),
+    ("a VCD as binary", "binary", HEAD + b"#0 1! 1#\n", "looks like a VCD"),
+    ("a table as binary", "binary", b"SCL,SDA\n1,1\n", "looks like text"),
     ("no item", "items", b" \n \n", "no item"),
     ("a level above 3", "items", b"3234", "byte 3 is no item"),
     ("a letter", "items", b"32 x", "byte 3 is no item"),
@@ -112,6 +116,10 @@ def command_line(out):
         done = tool(*words, "items", "binary", path, "-")
         expect(done.returncode == 1 and done.stdout == b"" and b"channel" in done.stderr, f"channels {words}")
     expect(tool("--period", "0", "items", "binary", path, "-").returncode == 1, "a period of 0")
+    for words in (("items", "binary", path), ("items", "sr", path, "-"), ("--period", "x", "vcd", "items", back, "-")):
+        expect(tool(*words).returncode == 2, f"wrong usage {words}")
+    help_text = tool("--help").stdout.decode()
+    expect(all(f"--{name} " in help_text for name in ("scl", "sda", "out-scl", "out-sda", "period", "timescale")), "help")
     expect(tool("--timescale", "soon", "items", "vcd", path, "-").returncode == 1, "a time unit that is none")
 
 
@@ -136,6 +144,15 @@ def wrong_files(out):
                 expect(convert.main([form, "binary", path, target]) == 1, f"{name}: status")
         expect(get(target) == b"before", f"{name}: the output was touched")
     expect(sorted(os.listdir(out)) == sorted({"wrong", "target", "a.txt", "b.vcd"}), "a file was left behind")
+
+
+def last_times():
+    """A last time is sampled if it brings a change, and with --changes every change counts, whatever the period."""
+    changed = HEAD + b"#0 1! 1#\n#1 0#\n#2 1#\n#3 0#\n"
+    expect(turned("vcd", "items", changed) == b"3232\n", "a change at the last time")
+    expect(turned("vcd", "items", changed + b"#4\n") == b"3232\n", "a last time without a change")
+    expect(turned("vcd", "items", changed, "--changes", "--period", "2") == b"3232\n", "changes between two items")
+    expect(turned("vcd", "items", changed, "--period", "2") == b"33\n", "a period of 2")
 
 
 def cut_everywhere():
@@ -228,6 +245,7 @@ def main(arguments):
         round_trips(get(path), path)
     command_line(out)
     wrong_files(out)
+    last_times()
     cut_everywhere()
     if shutil.which("sigrok-cli"):
         by_sigrok(out, captures)

@@ -24,228 +24,60 @@ import argparse
 import os
 import re
 import sys
-import tempfile
 
-LARGEST = 100_000_000
-KEYWORDS = ("$comment", "$date", "$version", "$scope", "$upscope", "$timescale")
-DUMPS = ("$dumpvars", "$dumpall", "$dumpon", "$dumpoff", "$end")
-TIMESCALE = re.compile(r"(1|10|100) ?(s|ms|us|ns|ps|fs)\Z")
+sys.dont_write_bytecode = True
+sys.path.insert(0, os.path.join(os.path.dirname(os.path.realpath(__file__)), "..", "command"))
+from outputs import Output  # noqa: E402
+from readers import channels, reader_of_data  # noqa: E402
+from records import Bad, Runs  # noqa: E402
+from vcd import TIMESCALE  # noqa: E402
+
+LARGEST = 100_000_000  # items
 
 
-class Bad(Exception):
-    """What is wrong with the input, for the reader's eyes."""
+# ---- Reading: the command's readers ----
+
+def expanded(runs, levels):
+    """The items of runs, behind those that there are; not more than can be held."""
+    for level, count in zip(runs.levels, runs.counts):
+        if len(levels) + count > LARGEST:
+            raise Bad(f"more than {LARGEST} items, the most that are taken; choose a longer period or --changes")
+        levels += bytes([level]) * count
 
 
-# ---- items ----
+def changed(runs, levels):
+    """The same, but an item only where the level changes."""
+    for level in runs.levels:
+        if not levels or levels[-1] != level:
+            levels.append(level)
 
-def items_in(data):
-    """The levels of an items text."""
+
+def levels_of(form, data, options):
+    """The levels of a file in this form; there has to be at least one."""
+    if not data:
+        raise Bad("the file is empty")
     levels = bytearray()
-    for at, byte in enumerate(data):
-        if 0x30 <= byte <= 0x33:
-            levels.append(byte - 0x30)
-        elif byte == ord("h"):
-            raise Bad(f"item {len(levels)} is a handler call (byte {at}), which no wire record has")
-        elif byte not in b" \n":
-            raise Bad(f"byte {at} is no item: {bytes([byte])!r}")
+    for piece in reader_of_data(data, form, options).pieces():
+        if isinstance(piece, Runs):
+            (changed if options.changes else expanded)(piece, levels)
+        else:
+            levels += piece.levels
+    if not levels:
+        raise Bad("there is no item in it")
     return bytes(levels)
 
+
+# ---- Writing ----
 
 def items_out(levels, _):
     text = levels.translate(bytes.maketrans(b"\0\1\2\3", b"0123"))
     return b"".join(text[at:at + 96] + b"\n" for at in range(0, len(text), 96))
 
 
-# ---- sigrok's binary form ----
-
-def channel(text, default):
-    """A channel's number, 0 to 7."""
-    number = default if text is None else text
-    if not re.match(r"[0-7]\Z", number):
-        raise Bad(f"{number} is no channel of a binary capture: 0 to 7")
-    return int(number)
-
-
-def channels(names):
-    scl, sda = channel(names[0], "1"), channel(names[1], "0")
-    if scl == sda:
-        raise Bad(f"SCL and SDA are both channel {scl}")
-    return scl, sda
-
-
-def binary_in(data, options):
-    scl, sda = channels((options.scl, options.sda))
-    table = bytes(2 * (byte >> scl & 1) + (byte >> sda & 1) for byte in range(256))
-    return data.translate(table)
-
-
 def binary_out(levels, options):
-    scl, sda = channels((options.out_scl, options.out_sda))
+    scl, sda = channels(options.out_scl, options.out_sda)
     table = bytes((level >> 1 & 1) << scl | (level & 1) << sda for level in range(4)) + bytes(252)
     return levels.translate(table)
-
-
-# ---- VCD ----
-
-class Signals:
-    """The two lines of a VCD: their identifiers, values and the time they were last known to change."""
-
-    def __init__(self, options):
-        self.names = (options.scl or "SCL", options.sda or "SDA")
-        if self.names[0] == self.names[1]:
-            raise Bad(f"SCL and SDA are both the signal {self.names[0]}")
-        self.codes = [None, None]
-        self.values = [None, None]
-
-    def declare(self, words):
-        """A $var: type, width, identifier, name."""
-        if len(words) < 4:
-            raise Bad(f"a $var of {len(words)} words: {' '.join(words)}")
-        for line in (0, 1):
-            if words[3] != self.names[line]:
-                continue
-            if self.codes[line] is not None and self.codes[line] != words[2]:
-                raise Bad(f"there are two signals {words[3]}")
-            if words[1] != "1" or len(words) > 4 and words[4] != "[0]":
-                raise Bad(f"the signal {words[3]} is not one bit wide")
-            self.codes[line] = words[2]
-
-    def declared(self):
-        for line in (0, 1):
-            if self.codes[line] is None:
-                raise Bad(f"there is no signal {self.names[line]}")
-
-    def take(self, value, code):
-        """A value change; other signals may have any value."""
-        for line in (0, 1):
-            if self.codes[line] == code:
-                self.values[line] = value
-
-    def level(self, time):
-        for line in (0, 1):
-            if self.values[line] not in ("0", "1"):
-                told = "has no value" if self.values[line] is None else f"is {self.values[line]}"
-                raise Bad(f"the signal {self.names[line]} {told} at time {time}")
-        return 2 * int(self.values[0]) + int(self.values[1])
-
-
-class Sampler:
-    """Puts down a level for every period that has gone by, or for every change."""
-
-    def __init__(self, signals, options):
-        self.signals = signals
-        self.period = options.period
-        self.changes = options.changes
-        self.levels = bytearray()
-        self.time = None
-        self.next = None
-        self.changed = False  # since the time began
-
-    def put(self, level, count):
-        if len(self.levels) + count > LARGEST:
-            raise Bad(f"more than {LARGEST} items; choose a longer period or --changes")
-        self.levels += bytes([level]) * count
-
-    def settle(self, end):
-        """The values of self.time hold up to a later time, which is not yet sampled."""
-        level = self.signals.level(self.time)
-        if self.changes:
-            if not self.levels or self.levels[-1] != level:
-                self.put(level, 1)
-        elif self.next < end:
-            count = (end - 1 - self.next) // self.period + 1
-            self.put(level, count)
-            self.next += count * self.period
-
-    def move(self, time):
-        if self.time is None:
-            self.next = time
-        elif time < self.time:
-            raise Bad(f"time runs backwards, from {self.time} to {time}")
-        elif time > self.time:
-            self.settle(time)
-            self.changed = False
-        self.time = time
-
-    def finish(self):
-        """The last time is sampled if it brought a change, or if it is the only one."""
-        if self.time is None:
-            raise Bad("there is no time in it")
-        if self.changed or not self.levels:
-            self.settle(self.time + 1)
-
-
-def section(words, at, keyword):
-    """The words up to the $end of a section, and the place behind it."""
-    try:
-        end = words.index("$end", at)
-    except ValueError:
-        raise Bad(f"{keyword} has no $end: the file is cut short") from None
-    return words[at:end], end + 1
-
-
-def vcd_header(words, signals):
-    """Everything up to $enddefinitions; answers the place behind it."""
-    at = 0
-    while at < len(words):
-        keyword = words[at]
-        inside, at = section(words, at + 1, keyword)
-        if keyword == "$enddefinitions":
-            signals.declared()
-            return at
-        if keyword == "$var":
-            signals.declare(inside)
-        elif keyword not in KEYWORDS:
-            raise Bad(f"{keyword} where a declaration should be")
-    raise Bad("there is no $enddefinitions: the file is cut short, or it is no VCD")
-
-
-def vector(words, at, signals):
-    """A value of more than one character (b, r or s), with its identifier in the next word."""
-    if at + 1 == len(words):
-        raise Bad(f"{words[at]} has no identifier: the file is cut short")
-    bits = words[at][1:]
-    if words[at + 1] in signals.codes and (words[at][0] not in "bB" or len(bits) != 1):
-        raise Bad(f"{words[at]} is no value of one bit")
-    signals.take(bits.lower(), words[at + 1])
-    return at + 2
-
-
-def vcd_change(words, at, signals, sampler):
-    """One word after the header, or two, or a comment; answers the place behind it."""
-    word = words[at]
-    if word[0] == "#":
-        if not re.match(r"[0-9]{1,19}\Z", word[1:]):
-            raise Bad(f"{word} is no time")
-        sampler.move(int(word[1:]))
-    elif word[0] in "01xXzZ" and len(word) > 1:
-        signals.take(word[0].lower(), word[1:])
-        sampler.changed = True
-    elif word[0] in "bBrRsS" and len(word) > 1:
-        sampler.changed = True
-        return vector(words, at, signals)
-    elif word == "$comment":
-        return section(words, at + 1, word)[1]
-    elif word not in DUMPS:
-        raise Bad(f"{word} is no value change")
-    return at + 1
-
-
-def vcd_in(data, options):
-    signals = Signals(options)
-    sampler = Sampler(signals, options)
-    try:
-        text = data.decode("ascii")
-    except UnicodeDecodeError as wrong:
-        raise Bad(f"byte {wrong.start} is not ASCII") from None
-    if not text.endswith("\n"):
-        raise Bad("the last line is not ended: the file is cut short")
-    words = text.split()
-    at = vcd_header(words, signals)
-    while at < len(words):
-        at = vcd_change(words, at, signals, sampler)
-    sampler.finish()
-    return bytes(sampler.levels)
 
 
 def vcd_out(levels, options):
@@ -268,61 +100,44 @@ def vcd_out(levels, options):
     return ("\n".join(lines) + "\n").encode("ascii")
 
 
-# ---- the command ----
-
-def levels_of(form, data, options):
-    """The levels of a file in this form; there has to be at least one."""
-    if not data:
-        raise Bad("the file is empty")
-    if form == "items":
-        levels = items_in(data)
-    else:
-        levels = binary_in(data, options) if form == "binary" else vcd_in(data, options)
-    if not levels:
-        raise Bad("there is no item in it")
-    return levels
-
+# ---- The command ----
 
 def converted(options, data):
     """The bytes of the output; Bad where there are none."""
     if options.period < 1:
-        raise Bad(f"a period of {options.period}")
+        raise Bad(f"a period of {options.period}: it is at least 1")
+    if options.changes:
+        options.period = 1  # so that no change falls between two items
     levels = levels_of(options.source, data, options)
     return {"items": items_out, "binary": binary_out, "vcd": vcd_out}[options.target](levels, options)
 
 
 def write(path, data):
-    """All of it or nothing: first to a file beside it, which then takes its name."""
+    """All of it or nothing."""
     if path == "-":
         sys.stdout.buffer.write(data)
         sys.stdout.buffer.flush()
         return
-    handle, beside = tempfile.mkstemp(dir=os.path.dirname(path) or ".")
-    try:
-        with os.fdopen(handle, "wb") as file:
-            file.write(data)
-        mask = os.umask(0)
-        os.umask(mask)
-        os.chmod(beside, 0o666 & ~mask)
-        os.replace(beside, path)
-    except OSError:
-        os.unlink(beside)
-        raise
+    with Output(path) as file:
+        file.write(data)
 
 
 def parser():
-    p = argparse.ArgumentParser(description="Converts wire records between items text, sigrok's binary form and VCD.")
-    p.add_argument("--scl")
-    p.add_argument("--sda")
-    p.add_argument("--out-scl")
-    p.add_argument("--out-sda")
-    p.add_argument("--period", type=int, default=1)
-    p.add_argument("--changes", action="store_true")
-    p.add_argument("--timescale", default="1 us")
-    p.add_argument("source", metavar="FROM", choices=("items", "binary", "vcd"))
-    p.add_argument("target", metavar="TO", choices=("items", "binary", "vcd"))
-    p.add_argument("input", metavar="INPUT")
-    p.add_argument("output", metavar="OUTPUT")
+    p = argparse.ArgumentParser(description="Converts wire records between items text, sigrok's binary form and VCD.",
+                                epilog="Exit status: 0 converted, 1 something is wrong with a file, 2 the call is wrong.")
+    channel = "binary: the channel's number, 0 to 7 (%s unless given); vcd: the signal's name (%s unless given)"
+    p.add_argument("--scl", metavar="NAME", help="SCL of INPUT; " + channel % ("1", "SCL"))
+    p.add_argument("--sda", metavar="NAME", help="SDA of INPUT; " + channel % ("0", "SDA"))
+    p.add_argument("--out-scl", metavar="NAME", help="SCL of OUTPUT, in the same way")
+    p.add_argument("--out-sda", metavar="NAME", help="SDA of OUTPUT, in the same way")
+    p.add_argument("--period", type=int, default=1, metavar="N", help="time units of a VCD from item to item, 1 or more (1)")
+    p.add_argument("--changes", action="store_true", help="of a VCD: items only where a line changes")
+    p.add_argument("--timescale", default="1 us", metavar="T", help="the time unit of a VCD that is written (1 us)")
+    forms = ("items", "binary", "vcd")
+    p.add_argument("source", metavar="FROM", choices=forms, help="what INPUT is: items, binary or vcd")
+    p.add_argument("target", metavar="TO", choices=forms, help="what OUTPUT is to be: items, binary or vcd")
+    p.add_argument("input", metavar="INPUT", help="the file to read; - is standard input")
+    p.add_argument("output", metavar="OUTPUT", help="the file to write; - is standard output")
     return p
 
 
@@ -336,7 +151,7 @@ def main(arguments):
                 data = file.read()
         write(options.output, converted(options, data))
     except Bad as wrong:
-        print(f"convert.py: {options.input}: {wrong}", file=sys.stderr)
+        print(f"convert.py: {wrong.of or options.input}: {wrong}", file=sys.stderr)
         return 1
     except OSError as wrong:
         print(f"convert.py: {wrong}", file=sys.stderr)

@@ -1,0 +1,159 @@
+"""Runs the C program beside the readers: a thread feeds it the record, its lines are read here."""
+import bisect
+import os
+import shlex
+import struct
+import subprocess
+import sys
+import threading
+
+from records import Bad, CHUNK, Runs
+
+EVERYTHING = 2**64 - 1
+
+
+def program(here):
+    """The command line of the C program: as it is told, installed beside the script, or built in the source tree."""
+    told = os.environ.get("WHERRYOAR_PROGRAM")
+    if told:
+        return shlex.split(told)
+    installed = os.path.join(here, "..", "libexec", "wherryoar", "draw")
+    if os.path.isfile(installed):
+        return [installed]
+    build = os.path.join(here, "build.sh")
+    if not os.path.isfile(build):
+        raise Bad(f"the program draw is neither at {installed} nor named by WHERRYOAR_PROGRAM")
+    done = subprocess.run(["bash", build], stdout=subprocess.PIPE, check=False)
+    if done.returncode != 0:
+        raise Bad(f"{build} could not build the program draw")
+    return shlex.split(done.stdout.decode().splitlines()[-1])
+
+
+class Window:
+    """The items whose lanes are told: from one up to another, each an item's number or a time in picoseconds."""
+
+    def __init__(self, begin=None, end=None):
+        self.begin, self.end = begin, end  # (number, is it a time), or None
+        self.items = None if self.is_timed() else (begin[0] if begin else 0, end[0] if end else EVERYTHING)
+        self.is_closed = False             # enough was seen
+        self.sent = (0, 0)                 # its items, as far as they are known
+
+    def is_timed(self):
+        return any(edge is not None and edge[1] for edge in (self.begin, self.end))
+
+    def by_clock(self, clock):
+        """The items of a window in times, where a clock gives them."""
+        def item(edge, default):
+            return default if edge is None else min(clock.item_at(edge[0]), EVERYTHING) if edge[1] else edge[0]
+
+        return item(self.begin, 0), item(self.end, EVERYTHING)
+
+    def by_times(self, before, times):
+        """The items of a window in times, as far as the times of these items tell; what is still to come lies far away."""
+        def item(edge, default, found):
+            if edge is None or not edge[1]:
+                return default if edge is None else edge[0]
+            place = bisect.bisect_left(times, float(edge[0]) / 1e12 - 5e-13)  # half a picosecond, for what rounding does
+            return found if found is not None else before + place if place < len(times) else None
+
+        begin, end = self.items or (None, None)
+        self.items = item(self.begin, 0, begin), item(self.end, EVERYTHING, end)
+        return tuple(EVERYTHING if place is None else place for place in self.items)
+
+
+class Feeder(threading.Thread):
+    """Sends a record to the program; what was wrong with it is kept."""
+
+    def __init__(self, pipe, reader, window, progress):
+        super().__init__(daemon=True)
+        self.pipe, self.reader, self.window, self.progress = pipe, reader, window, progress
+        self.wrong = None
+        self.items = 0
+        self.sent = None  # the window that the program has
+
+    def run(self):
+        try:
+            self.feed()
+            self.pipe.close()
+        except BrokenPipeError:
+            pass  # the program has ended; its status tells why
+        except BaseException as wrong:  # told by the thread that waits for this one
+            self.wrong = wrong
+        finally:
+            try:
+                self.pipe.close()
+            except OSError:
+                pass
+
+    def feed(self):
+        for piece in self.reader.pieces():
+            self.send_window(piece)
+            if isinstance(piece, Runs):
+                self.send_runs(piece)
+            elif piece.levels:
+                self.send_levels(piece)
+            self.progress()
+        if self.items == 0:
+            raise Bad("there is no item in it")
+        self.pipe.write(b"e")
+
+    def send_window(self, piece):
+        """The window, whenever it has become another."""
+        window, times = self.window, getattr(piece, "times", None)
+        if window is None or not piece.levels:
+            return
+        if window.is_closed:
+            items = 0, 0
+        elif window.is_timed() and times is not None:
+            items = window.by_times(self.items, times)
+        elif window.is_timed():
+            if self.reader.clock is None:
+                raise Bad("it has no times: --from and --to are items here, or --rate gives it times")
+            items = window.by_clock(self.reader.clock)
+        else:
+            items = window.items
+        if not window.is_closed:
+            window.sent = items
+        if items != self.sent:
+            self.pipe.write(b"w" + struct.pack("<QQ", *items))
+            self.sent = items
+
+    def send_levels(self, piece):
+        head = struct.pack("<cI", b"r" if piece.times is None else b"t", len(piece.levels))
+        self.pipe.write(head + (b"" if piece.times is None else little_endian(piece.times)) + piece.levels)
+        self.items += len(piece.levels)
+
+    def send_runs(self, piece):
+        for at in range(0, len(piece.levels), CHUNK):
+            levels, counts = piece.levels[at:at + CHUNK], piece.counts[at:at + CHUNK]
+            self.pipe.write(struct.pack("<cI", b"k", len(levels)) + levels + little_endian(counts))
+            self.items += sum(counts)
+
+
+def little_endian(numbers):
+    if sys.byteorder == "big":
+        numbers = numbers[:]
+        numbers.byteswap()
+    return numbers.tobytes()
+
+
+def lines(words, reader, window, progress):
+    """The lines of the program for a record, each as its fields. Bad where the record is, or the program fails."""
+    try:
+        process = subprocess.Popen(words, stdin=subprocess.PIPE, stdout=subprocess.PIPE, stderr=subprocess.PIPE)
+    except OSError as wrong:
+        raise Bad(f"{words[0]} cannot be run: {wrong.strerror}; WHERRYOAR_PROGRAM names another") from None
+    feeder = Feeder(process.stdin, reader, window, progress)
+    feeder.start()
+    try:
+        for line in process.stdout:
+            yield line.split()
+        feeder.join()
+        told = process.stderr.read().decode("utf-8", "replace").strip()
+        if feeder.wrong is not None:
+            raise feeder.wrong
+        if process.wait() != 0:
+            raise Bad(f"the program {words[0]} failed: {told or process.returncode}")
+    finally:
+        process.kill()
+        process.wait()

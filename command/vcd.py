@@ -1,0 +1,312 @@
+"""Reads SCL and SDA of a VCD as runs of levels: an item for each period of its time units, from its first time on.
+
+Strict where the form has anything to hold on to: a line that is x, z or not known when it is sampled is wrong, and so is a
+last line that is not ended. A last time without any change ends the record and is not sampled, as sigrok has it. A VCD cut
+exactly between two of its lines is a shorter VCD: nothing in the form tells it.
+"""
+import itertools
+import re
+from array import array
+
+from records import Bad, Clock, PICOSECONDS, Runs, lines_in_parts, two_chosen
+
+KEYWORDS = (b"$comment", b"$date", b"$version", b"$scope", b"$upscope", b"$timescale")
+DUMPS = (b"$dumpvars", b"$dumpall", b"$dumpon", b"$dumpoff", b"$end")
+TIMESCALE = re.compile(r"(1|10|100) ?(s|ms|us|ns|ps|fs)\Z")
+VALUES = b"01xz"  # of a line; one that has none yet is the fifth
+NONE = len(VALUES)
+KNOWN_WORDS = 100_000
+CUT_SHORT = "the last line is not ended: the file is cut short"
+
+# The lines' values as one number, 5 * SCL + SDA, and the level that it stands for.
+LEVEL = [2 * (both // 5) + both % 5 if both // 5 < 2 and both % 5 < 2 else None for both in range(25)]
+
+
+class Words:
+    """The words of a text, part by part, and the lines on which they stand."""
+
+    def __init__(self, source):
+        self.parts = lines_in_parts(source, "VCD", b"\n \t\r")
+        self.part, self.line = b"", 1
+        self.words, self.at = [], 0
+
+    def refill(self):
+        """Goes on to the next part; answers whether there is one."""
+        part, line = next(self.parts, (None, 0))
+        if part is None:
+            return False
+        self.part, self.line, self.words, self.at = part, line, part.split(), 0
+        try:
+            part.decode("utf-8")
+        except UnicodeDecodeError as wrong:
+            self.at = len(part[:wrong.start].split()) + 1
+            raise Bad(f"the byte {part[wrong.start]:02X} is not ASCII, nor UTF-8") from None
+        return True
+
+    def take(self):
+        """The next word; None at the end."""
+        while self.at == len(self.words):
+            if not self.refill():
+                return None
+        self.at += 1
+        return self.words[self.at - 1]
+
+    def section(self, keyword):
+        """The words up to the $end of a section."""
+        inside, word = [], self.take()
+        while word != b"$end":
+            if word is None:
+                raise Bad(f"{shown(keyword)} has no $end: the file is cut short")
+            inside.append(word.decode("utf-8"))
+            word = self.take()
+        return inside
+
+    def is_cut(self):
+        """Whether the word that was taken last is the file's end, without the end of a line."""
+        return self.at == len(self.words) and not self.part[-1:].isspace()
+
+    def here(self):
+        """The line of the word that was taken last."""
+        found = next(itertools.islice(re.finditer(rb"\S+", self.part), max(self.at - 1, 0), None), None)
+        return self.line + (self.part.count(b"\n", 0, found.start()) if found else 0)
+
+
+def shown(word):
+    """A word for a message, not too long."""
+    text = word.decode("utf-8", "replace")
+    return text if len(text) <= 40 else text[:40] + ".."
+
+
+class Signal:
+    """A declared signal: its name, the scopes it stands in, its identifier and whether it is one bit wide."""
+
+    def __init__(self, words, scopes):
+        if len(words) < 4:
+            raise Bad(f"a $var of {len(words)} words: {' '.join(words)}")
+        self.code = words[2].encode("utf-8")
+        self.is_bit = words[1] == "1"
+        parts = words[3:]
+        bit = parts.pop() if len(parts) > 1 and parts[-1].startswith("[") else "[0]"
+        self.name = " ".join(parts) + (bit if self.is_bit and bit != "[0]" else "")
+        self.path = ".".join([*scopes, self.name])
+
+
+class Header:
+    """Everything up to $enddefinitions."""
+
+    def __init__(self, words):
+        self.signals, self.scopes, self.timescale, self.unit = [], [], None, None
+        keyword = words.take()
+        while keyword is not None:
+            self.take(keyword, words.section(keyword))
+            if keyword == b"$enddefinitions":
+                return
+            keyword = words.take()
+        raise Bad("there is no $enddefinitions: the file is cut short, or it is no VCD")
+
+    def take(self, keyword, inside):
+        if keyword == b"$var":
+            self.signals.append(Signal(inside, self.scopes))
+        elif keyword == b"$scope":
+            self.scopes.append(inside[-1] if inside else "")
+        elif keyword == b"$upscope":
+            del self.scopes[-1:]
+        elif keyword == b"$timescale":
+            found = TIMESCALE.match(" ".join(inside))
+            if found:
+                self.timescale = " ".join(found.groups())
+                self.unit = int(found.group(1)) * PICOSECONDS[found.group(2)]
+        elif keyword not in KEYWORDS and keyword != b"$enddefinitions":
+            raise Bad(f"{shown(keyword)} where a declaration should be")
+
+    def lines(self, options):
+        """The signals of SCL and SDA. One name for several signals is told apart by the scopes before it."""
+        signals = list({(signal.name, signal.code): signal for signal in self.signals}.values())
+        names = [signal.name for signal in signals]
+        told = [signal.path if names.count(signal.name) > 1 else signal.name for signal in signals]
+        lines = [signals[place] for place in two_chosen(options, told, "signal")]
+        for line in lines:
+            if not line.is_bit:
+                raise Bad(f"the signal {line.name} is not one bit wide")
+        return lines
+
+
+class Sampler:
+    """Puts down a run for the time that each level stood."""
+
+    def __init__(self, lines, period):
+        self.lines = lines
+        self.period = period
+        self.both = 5 * NONE + NONE
+        self.time = self.due = None  # the time reached, and that of the next item
+        self.has_changed = False     # since the time began
+        self.total = False           # whether there was any item yet
+        self.tables = {}             # what each known word does to the lines' values
+        self.levels, self.counts = bytearray(), array("Q")
+
+    def flush(self):
+        """The runs so far."""
+        runs = Runs(bytes(self.levels), self.counts)
+        self.levels, self.counts = bytearray(), array("Q")
+        return runs
+
+    def put(self, level, count):
+        self.total = True
+        if self.levels and self.levels[-1] == level:
+            self.counts[-1] += count
+        else:
+            self.levels.append(level)
+            self.counts.append(count)
+
+    def level(self):
+        for line, value in zip(self.lines, divmod(self.both, 5)):
+            if value > 1:
+                told = "has no value" if value == NONE else f"is {chr(VALUES[value])}"
+                raise Bad(f"the signal {line.name} {told} at time {self.time}")
+        return LEVEL[self.both]
+
+    def settle(self, end):
+        """The values of the time reached hold up to a later one, which is not yet sampled."""
+        level = self.level()
+        if self.due < end:
+            count = (end - 1 - self.due) // self.period + 1
+            self.put(level, count)
+            self.due += count * self.period
+
+    def move(self, time):
+        if self.time is None:
+            self.due = time
+        elif time < self.time:
+            raise Bad(f"time runs backwards, from {self.time} to {time}")
+        elif time > self.time:
+            self.settle(time)
+            self.has_changed = False
+        self.time = time
+
+    def take(self, value, code):
+        """A value change; other signals may have any value. Answers what it does to the lines' values."""
+        self.has_changed = True
+        is_own = [code == line.code for line in self.lines]
+        if any(is_own) and value not in (b"0", b"1", b"x", b"z"):
+            raise Bad(f"{shown(value)} is no value of one bit")
+        place = VALUES.find(value)
+        table = [5 * (place if is_own[0] else both // 5) + (place if is_own[1] else both % 5) for both in range(25)]
+        self.both = table[self.both]
+        return table
+
+    def finish(self):
+        """The last time is sampled if it brought a change, or if it is the only one."""
+        if self.time is None:
+            raise Bad("there is no time in it")
+        if self.has_changed or not self.total:
+            self.settle(self.time + 1)
+
+    def take_known(self, words):
+        """As many words as are times and known value changes, quickly; the first other one is left, and so is a wrong one."""
+        tables, both, time, due, period = self.tables, self.both, self.time, self.due, self.period
+        has_changed, levels, counts, last = self.has_changed, self.levels, self.counts, None
+        at = words.at - 1
+        for at, word in enumerate(itertools.islice(words.words, words.at, None), words.at):
+            table = tables.get(word)
+            if table is not None:
+                both, has_changed = table[both], True
+                continue
+            digits = word[1:]
+            if word[0] != 35 or not digits.isdigit() or len(digits) > 19:
+                break
+            now, level = int(digits), LEVEL[both]
+            if now < time or level is None:
+                break
+            if due < now:
+                count = (now - 1 - due) // period + 1
+                due += count * period
+                if level == last:
+                    counts[-1] += count
+                else:
+                    levels.append(level)
+                    counts.append(count)
+                    last = level
+            if now > time:
+                time, has_changed = now, False
+        else:
+            at += 1
+        self.total = self.total or len(levels) > 0
+        self.both, self.time, self.due, self.has_changed, words.at = both, time, due, has_changed, at
+
+
+class VcdReader:
+    """The runs of a VCD; its clock stands as soon as there is one."""
+
+    def __init__(self, source, options):
+        self.words = Words(source)
+        self.clock = None
+        self.first = None  # the time of the first item, in the file's own units
+        self.located(self.begin, options)
+
+    def located(self, work, *words):
+        """Does a work whose complaints are told with their lines."""
+        try:
+            return work(*words)
+        except Bad as wrong:
+            told = CUT_SHORT if self.words.is_cut() else wrong
+            raise Bad(f"line {self.words.here()}: {told}") from None
+
+    def begin(self, options):
+        header = Header(self.words)
+        self.sampler = Sampler(header.lines(options), options.period)
+        self.unit, self.timescale = header.unit, header.timescale
+
+    def pieces(self):
+        is_more = True
+        while is_more:
+            is_more = self.located(self.take_part)
+            yield self.sampler.flush()
+
+    def take_part(self):
+        """A part's words, or the last ones; answers whether there may be more."""
+        words, sampler = self.words, self.sampler
+        while words.at < len(words.words) or words.refill():
+            if sampler.time is not None:
+                sampler.take_known(words)
+            if words.at < len(words.words):
+                self.take_word(words.take())
+            elif sampler.levels:
+                return True
+        if not words.part.endswith(b"\n"):
+            raise Bad(CUT_SHORT)
+        sampler.finish()
+        return False
+
+    def take_word(self, word):
+        """One word after the header, with what belongs to it."""
+        first = word[:1].lower()
+        if first == b"#":
+            self.take_time(word)
+        elif first in (b"0", b"1", b"x", b"z") and len(word) > 1:
+            table = self.sampler.take(first, word[1:])
+            if len(self.sampler.tables) < KNOWN_WORDS:
+                self.sampler.tables[word] = table
+        elif first in (b"b", b"r", b"s") and len(word) > 1:
+            self.take_vector(word)
+        elif word == b"$comment":
+            self.words.section(word)
+        elif word not in DUMPS:
+            raise Bad(f"{shown(word)} is no value change")
+
+    def take_time(self, word):
+        if not re.match(rb"[0-9]{1,19}\Z", word[1:]):
+            raise Bad(f"{shown(word)} is no time")
+        self.sampler.move(int(word[1:]))
+        if self.first is None:
+            self.first = self.sampler.time
+            self.clock = Clock(self.unit * self.sampler.period, self.unit * self.first) if self.unit else None
+
+    def take_vector(self, word):
+        """A value of more than one character, with its identifier in the next word."""
+        code = self.words.take()
+        if code is None:
+            raise Bad(f"{shown(word)} has no identifier: the file is cut short")
+        is_own = any(code == line.code for line in self.sampler.lines)
+        if is_own and (word[:1] not in b"bB" or len(word) != 2):
+            raise Bad(f"{shown(word)} is no value of one bit")
+        self.sampler.take(word[1:].lower(), code)

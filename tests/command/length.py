@@ -1,0 +1,145 @@
+#!/usr/bin/env python3
+"""Tests long records: so many samples in each form, in time and memory; the bar on a terminal; an interrupted run.
+
+    length.py OUT SAMPLES SECONDS      OUT is a folder for files; SECONDS the most that a form may take, 0 for no limit
+"""
+import os
+import pty
+import resource
+import signal
+import subprocess
+import sys
+import time
+import zipfile
+
+from common import SCRIPT, csv_text, expect, finish, get, put, record, vcd_text
+
+BLOCK = record("i S 42+ 05+ 1C+ 2D+ P i S 42+ 05+ S 43+ 1C+ 2D- P i S A0+ 00+ P i", 10, 10)
+MESSAGES, BYTES, OWN = 4, 11, 3
+MOST_MEMORY = 200  # megabytes
+MODEL = ["--add", "42"]
+
+
+def vcd_changes(block):
+    """The changes of a block, moved on in time."""
+    first = block * len(BLOCK)
+    return "".join(f'#{first + item}\n{level >> 1}!\n{level & 1}"\n' for item, level in enumerate(BLOCK)
+                   if item == 0 or level != BLOCK[item - 1])
+
+
+def timed_rows(block):
+    first = block * len(BLOCK)
+    return csv_text(BLOCK, None, "{time},{scl},{sda}", first=first / 1e6)
+
+
+def written(out, name, head, part, count, end=""):
+    """A file written part by part: this process stays small, since a child's memory is counted from its parent's on."""
+    path = put(out, name, head)
+    with open(path, "ab") as file:
+        for block in range(count):
+            file.write(part(block))
+        file.write(end.encode("ascii"))
+    return path
+
+
+def written_sr(out, blocks):
+    """A .sr with a member for every 1,000 blocks."""
+    path = os.path.join(out, "long.sr")
+    with zipfile.ZipFile(path, "w", zipfile.ZIP_DEFLATED) as file:
+        file.writestr("metadata", "[device 1]\ncapturefile=logic-1\nsamplerate=1 MHz\nprobe1=SDA\nprobe2=SCL\nunitsize=1\n")
+        for at in range(0, blocks, 1000):
+            file.writestr(f"logic-1-{at // 1000 + 1}", BLOCK * min(1000, blocks - at))
+    return path
+
+
+def files(out, samples):
+    """One record of so many samples in each form; CSV with times too, at a tenth of the length."""
+    blocks = -(-samples // len(BLOCK))
+    few = -(-blocks // 10)
+    rows = csv_text(BLOCK, None).encode("ascii")
+    head = vcd_text(BLOCK).split("#0\n", 1)[0]
+    return [(written(out, "long.bin", b"", lambda block: BLOCK, blocks), ["--as", "binary"], blocks),
+            (written_sr(out, blocks), [], blocks),
+            (written(out, "long.csv", "SCL,SDA\n", lambda block: rows, blocks), [], blocks),
+            (written(out, "long.vcd", head, lambda block: vcd_changes(block).encode("ascii"), blocks,
+                     f"#{blocks * len(BLOCK)}\n"), [], blocks),
+            (written(out, "timed.csv", "Time,SCL,SDA\n", lambda block: timed_rows(block).encode("ascii"), few), [], few)]
+
+
+def limits(cases, seconds):
+    """Each form gives the right counts, in time and memory."""
+    for path, options, blocks in cases:
+        begin = time.monotonic()
+        done = subprocess.run([sys.executable, SCRIPT, "show", path, *MODEL, *options], stdout=subprocess.PIPE,
+                              stderr=subprocess.PIPE, check=False)
+        taken = time.monotonic() - begin
+        memory = resource.getrusage(resource.RUSAGE_CHILDREN).ru_maxrss // 1024
+        last = done.stdout.decode().splitlines()[-1] if done.stdout else ""
+        wanted = f"{MESSAGES * blocks} messages, {BYTES * blocks} bytes, {OWN * blocks} to this address; wire and model agree"
+        expect(done.returncode == 0 and last == wanted, f"{path}: {done.returncode} {last} {done.stderr.decode()}")
+        expect(seconds == 0 or taken < seconds, f"{path}: {taken:.1f} s")
+        expect(memory < MOST_MEMORY, f"{path}: {memory} megabytes")
+        print(f"{os.path.basename(path)}: {blocks * len(BLOCK)} samples, {taken:.1f} s, {memory} megabytes")
+
+
+def long_time(out):
+    """A VCD of hours at a nanosecond an item is as quick as a short one."""
+    begin = time.monotonic()
+    path = put(out, "hours.vcd", vcd_text(BLOCK, timescale="1 ns", step=10**10))
+    done = subprocess.run([sys.executable, SCRIPT, "show", path, *MODEL], stdout=subprocess.PIPE, check=False)
+    expect(done.returncode == 0 and time.monotonic() - begin < 5, f"a VCD of hours: {time.monotonic() - begin:.1f} s")
+
+
+def bar(path):
+    """The bar is drawn where standard error is a terminal, and taken away; the table does not go there."""
+    ours, theirs = pty.openpty()
+    with open(os.devnull, "wb") as nowhere:
+        process = subprocess.Popen([sys.executable, SCRIPT, "show", path, *MODEL], stdout=nowhere, stderr=theirs)
+    os.close(theirs)
+    seen = b""
+    while True:
+        try:
+            part = os.read(ours, 65536)
+        except OSError:
+            break
+        seen += part
+        if not part:
+            break
+    os.close(ours)
+    expect(process.wait() == 0 and b"\r[#" in seen and b"%" in seen and seen.endswith(b" \r"), f"the bar: {seen[-200:]!r}")
+
+
+def interrupted(out, path):
+    """A run that is interrupted, or ended, leaves no output behind, and what was there stays."""
+    for number, status in ((signal.SIGINT, 130), (signal.SIGTERM, 143)):
+        folder = os.path.join(out, f"stopped_{number}")
+        os.makedirs(folder)
+        before = put(folder, "a.vcd", "before")
+        process = subprocess.Popen([sys.executable, SCRIPT, "show", path, *MODEL, "--lanes", before, "--svg",
+                                    os.path.join(folder, "a.svg")], stdout=subprocess.PIPE, stderr=subprocess.PIPE)
+        process.stdout.read(100)  # it is at work
+        expect(len(os.listdir(folder)) == 3, f"it writes beside its outputs: {os.listdir(folder)}")
+        process.send_signal(number)
+        _, err = process.communicate()
+        expect(process.returncode == status and err == b"", f"signal {number}: {process.returncode} {err!r}")
+        expect(os.listdir(folder) == ["a.vcd"] and get(before) == b"before", f"signal {number}: {os.listdir(folder)}")
+    head = subprocess.run(f"'{sys.executable}' '{SCRIPT}' show '{path}' --add 42 | head -n 2", shell=True, stdout=subprocess.PIPE,
+                          stderr=subprocess.PIPE, check=False)
+    expect(head.stdout.count(b"\n") == 2 and head.stderr == b"", f"a reader that has seen enough: {head.stderr!r}")
+
+
+def main(arguments):
+    if len(arguments) != 3:
+        print(__doc__, file=sys.stderr)
+        return 2
+    out, samples, seconds = arguments[0], int(arguments[1]), float(arguments[2])
+    cases = files(out, samples)
+    limits(cases, seconds)
+    long_time(out)
+    bar(cases[3][0])
+    interrupted(out, cases[2][0])
+    return finish()
+
+
+if __name__ == "__main__":
+    sys.exit(main(sys.argv[1:]))
