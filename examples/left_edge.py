@@ -29,9 +29,11 @@ def first_eight_clocks(levels):
 def reported(levels, edge):
     """The report's events from the edge up to the first address, by the items of the whole capture."""
     text = "".join(str(level) for level in levels)
-    lines = subprocess.run([REPORT], input=text, capture_output=True, text=True, check=True).stdout.splitlines()
+    report = subprocess.run([REPORT], input=text, stdout=subprocess.PIPE, text=True)
+    if report.returncode != 0:  # the script has said why, on standard error
+        sys.exit(report.returncode)
     events = []
-    for line in lines[1:-1]:
+    for line in report.stdout.splitlines()[1:-1]:
         item, event, byte, acknowledge, _ = line.split()
         events.append("%d %s" % (int(item) + edge, event))
         if event == "A":

@@ -7,8 +7,8 @@
    - Every call ends, and touches only what it is lent.
    - A refused call answers the number of the first refusal that applies, in the order 6, 1, 2, 3, 8, 9, 5, 4, 7, and leaves
      state and buffer exactly as they were.
-   - What no proof can cover is yours to keep: state, buffer, trace and record must not overlap; a length must not be longer
-     than the memory behind its pointer; a pointer may be null only where its length is 0.
+   - What no proof can cover is yours to keep: state, buffer, trace, record and lanes must not overlap; a length must not be
+     longer than the memory behind its pointer; a pointer may be null only where its length is 0.
    - The library keeps no state of its own, allocates nothing and calls nothing: calls on different states may run on
      different threads at once; two calls on one state or one buffer may not.
    - An image is good for this version of the library. One that an older version made means the same or is refused with 6,
@@ -18,6 +18,37 @@
    - A call takes at most 704 bytes of stack, wherryoar_sample at most 512, and at most 300 where the sample leaves the state
      as it is: the level is on the wire what is remembered of it.
    - Compiled for x86-64.                                                                                             */
+
+/* How to use it, for the programmer of a scope.
+
+   ADD. Eight bits, as the address byte stands on the wire; bit 0, R/W, plays no part. The 7-bit address 0x21 is ADD 0x42.
+
+   Levels. 2 * SCL + SDA: 3 both lines high, 2 SDA low, 1 SCL low, 0 both low. What the model pulls after an item acts from
+   the next item on.
+
+   A wire record or a trace: know which one you have.
+   - A wire record is what the wire showed, the slave's own pulls included; a probe captures one. It is for wherryoar_draw
+     and wherryoar_find.
+   - A trace is what everybody else drives, with the handler's calls; a program that plays the master makes one. It is for
+     wherryoar_run, its levels one by one for wherryoar_sample.
+   No function can tell them apart, so a mix-up is not refused. A wire record given to wherryoar_run has no handler calls in
+   it: the answer is 0, and from the first acknowledged byte on the clock is held for ever. A trace given to wherryoar_draw
+   is refused only for the calls in it; without them each hold ends as soon as the master lets SCL go, and each acknowledge
+   shows as a conflict.
+
+   When to call the handler. It is the firmware: call it where wherryoar_look shows flag 1 (SSPIF) or scl_pulled 1 (the
+   clock is held), before the next sample that shows SCL high; until the call the model keeps SCL low and misses the clocks
+   that follow. One call ends a hold; where SSPIF is 0 a call does nothing. A host without a firmware of its own leaves it to
+   wherryoar_draw, or calls the handler wherever scl_pulled is 1. It is a firmware for the registers as setup chooses them: a
+   host that clears SSPIF itself, or runs ten-bit addresses, ends the holds by its own writes.
+
+   Several slaves on one wire, a state for each. Of a wire record each draws the same items and needs to know nothing of the
+   others. With samples, feed each what all the others drive: the wire is low where the sample is low or any of them pulls,
+   so each one's pull is in the samples of the others. examples/lanes.c does it for two.
+
+   Feed the whole record and not the screen. Bytes are counted from a Start: a model that begins at the left edge does not
+   know of the message that was under way. To jump about in a long record keep a copy of the state, and of the window's bytes,
+   every so many items, and go on from the last copy before the screen.                                               */
 #ifndef WHERRYOAR_H
 #define WHERRYOAR_H
 
@@ -27,6 +58,14 @@
 #ifdef __cplusplus
 extern "C" {
 #endif
+
+/* The version of this header and of the archive that it belongs to, as numbers and as text. */
+#define WHERRYOAR_VERSION_MAJOR 0
+#define WHERRYOAR_VERSION_MINOR 7
+#define WHERRYOAR_VERSION_PATCH 0
+#define WHERRYOAR_VERSION WHERRYOAR_DOTTED(WHERRYOAR_VERSION_MAJOR, WHERRYOAR_VERSION_MINOR, WHERRYOAR_VERSION_PATCH)
+#define WHERRYOAR_DOTTED(a, b, c) WHERRYOAR_QUOTED(a) "." WHERRYOAR_QUOTED(b) "." WHERRYOAR_QUOTED(c)
+#define WHERRYOAR_QUOTED(number) #number
 
 /* The length of a state's image in bytes. */
 #define WHERRYOAR_STATE_LENGTH 48
@@ -42,6 +81,21 @@ extern "C" {
 #define WHERRYOAR_PAST_RECORD 7     /* the finder's item number is not below the record's length */
 #define WHERRYOAR_MODE_CHANGE 8     /* a write to CON1 with another SSPM, while SSPEN is 1 and stays so */
 #define WHERRYOAR_MASKED_TEN_BITS 9 /* a write after which a ten-bit SSPM would stand with SSPEN 1 and a MSK other than FF */
+
+/* The refusals in words, by number: static const char *const texts[] = WHERRYOAR_REFUSAL_TEXTS; puts(texts[answer.refusal]); */
+#define WHERRYOAR_REFUSAL_TEXTS                                                                                               \
+    {                                                                                                                         \
+        "done",                                                                                                               \
+        "register number above 7",                                                                                            \
+        "a write sets a bit that has to be 0: CON2 bits 4 to 1, or BOEN",                                                     \
+        "a write to CON1 turns on a mode that is not modelled: SSPM is none of 0110, 1110, 0111, 1111",                       \
+        "an item is not what it can be: a level above 3, or in a trace an item above 4",                                      \
+        "the window is not inside its buffer, not of the setup's length, or n is not 1 to 256",                               \
+        "the bytes are no state's image, which is 48 bytes made by wherryoar_setup",                                          \
+        "the item number is not below the record's length",                                                                   \
+        "a write to CON1 changes SSPM while the module runs: write SSPEN 0 first",                                            \
+        "a ten-bit mode runs with MSK FF alone",                                                                              \
+    }
 
 /* Register numbers. */
 #define WHERRYOAR_BUF 0
@@ -83,6 +137,27 @@ extern "C" {
 /* An item of a trace: a level 0 to 3 (2 * SCL + SDA) is a sample, this one a handler call. */
 #define WHERRYOAR_CALL_ITEM 4
 
+/* A word of wherryoar_draw: what is seen after its item. Bits 27 to 31 and 56 to 63 are 0. */
+#define WHERRYOAR_WORD_SDA ((uint64_t)1 << 0)        /* the wire as the module saw it: low where the record is low or it pulls */
+#define WHERRYOAR_WORD_SCL ((uint64_t)1 << 1)
+#define WHERRYOAR_WORD_SDA_PULLED ((uint64_t)1 << 2)
+#define WHERRYOAR_WORD_SCL_PULLED ((uint64_t)1 << 3)
+#define WHERRYOAR_WORD_PHASE(word) ((unsigned)((word) >> 4 & 0xF))
+#define WHERRYOAR_WORD_STAT(word) ((unsigned)((word) >> 8 & 0xFF))
+#define WHERRYOAR_WORD_SSPIF ((uint64_t)1 << 16)
+#define WHERRYOAR_WORD_CKP ((uint64_t)1 << 17)
+#define WHERRYOAR_WORD_SSPOV ((uint64_t)1 << 18)
+#define WHERRYOAR_WORD_WCOL ((uint64_t)1 << 19)
+#define WHERRYOAR_WORD_ACKSTAT ((uint64_t)1 << 20)
+#define WHERRYOAR_WORD_ACKTIM ((uint64_t)1 << 21)
+#define WHERRYOAR_WORD_CALLED ((uint64_t)1 << 22)    /* the handler was called before this item */
+#define WHERRYOAR_WORD_STORED ((uint64_t)1 << 23)    /* that call stored a byte */
+#define WHERRYOAR_WORD_START ((uint64_t)1 << 24)     /* a Start at this item, as the enabled module reads the wire */
+#define WHERRYOAR_WORD_STOP ((uint64_t)1 << 25)
+#define WHERRYOAR_WORD_CONFLICT ((uint64_t)1 << 26)  /* the record shows both lines high while the module pulled SDA */
+#define WHERRYOAR_WORD_POINTER(word) ((unsigned)((word) >> 32 & 0xFFFF))
+#define WHERRYOAR_WORD_BUF(word) ((unsigned)((word) >> 48 & 0xFF))
+
 /* What a call answers. */
 typedef struct {
     uint32_t refusal;   /* 0: done */
@@ -97,6 +172,14 @@ typedef struct {
     uint64_t start;     /* where the part begins; 0 after a refusal */
     uint64_t length;    /* how many items it has; 0 where the item lies in no message, and after a refusal */
 } wherryoar_part;
+
+/* How far a drawing went. */
+typedef struct {
+    uint32_t refusal;   /* 0: done */
+    uint64_t item;      /* refusal 4: the number of the first bad level; else 0 */
+    uint64_t samples;   /* how many items of the record were taken; 0 after a refusal */
+    uint64_t items;     /* how many words were written: as many; 0 after a refusal */
+} wherryoar_taken;
 
 /* What a scope draws of a state. After a refusal every other field is 0. */
 typedef struct {
@@ -157,6 +240,16 @@ wherryoar_answer wherryoar_call(uint8_t *state, size_t state_length, uint8_t *bu
    anything is changed. After a refusal state and buffer are as they were. */
 wherryoar_answer wherryoar_run(uint8_t *state, size_t state_length, uint8_t *buffer, size_t buffer_length,
                                uint64_t start, uint64_t n, const uint8_t *trace, size_t trace_length);
+
+/* Draws a whole wire record: a word for each item, in lanes. A record holds what the wire showed, the slave's own pulls
+   included. For each item: where the module holds the clock (it pulls SCL) and the record shows SCL high, the handler is
+   called first; then the item is taken as a sample; then its word is written, with the bits above. The same as those calls
+   one after the other, and a record may be cut anywhere: the next call goes on where this one was. Takes as many items as the
+   shorter of record and lanes has; what is behind them in lanes stays, and a bad level behind them is not looked at.
+   Refuses with 6 (no state's image), 5 (window, as above), 4 (a level above 3 among the items that would be taken; item is
+   the first one's number), before anything is changed. After a refusal state, buffer and lanes are as they were. */
+wherryoar_taken wherryoar_draw(uint8_t *state, size_t state_length, uint8_t *buffer, size_t buffer_length, uint64_t start,
+                               uint64_t n, const uint8_t *record, size_t record_length, uint64_t *lanes, size_t lanes_length);
 
 /* What the scope draws of a state; changes nothing. Refuses with 6 (no state's image). */
 wherryoar_view wherryoar_look(const uint8_t *state, size_t state_length);
