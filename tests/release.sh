@@ -119,6 +119,7 @@ try ten_bit example ten_bit examples/ten_bit.txt
 try from_cxx from_cxx
 try show show
 try report report
+try readme env "CC_ARCHIVE=$CC_ARCHIVE" "RUN=$RUN" python3 tests/readme.py # once there is a release to unpack
 
 echo "$passed passed, $failed failed"
 [ "$failed" -eq 0 ]
