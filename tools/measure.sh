@@ -2,7 +2,7 @@
 # Prints, for each crate, lines of code, of definitions and of proof (laws, theorems and proofs/), and the ratio over all.
 set -u
 cd "$(dirname "$0")/.." || exit 2
-laws='Laws|Theorems|Edges|Kept|Readback|Bits|Simulation|Demand|Before|Cut|Extent|Examples|Bench|Tests|Room|Worked|Image|Sampled|Loop|Walking|DemandOne|DemandTwo|DemandThree|HandlerIsFirmware|ModeStays|Following|Serving|Addresses'
+laws='Laws|Theorems|Edges|Kept|Readback|Bits|Simulation|Demand|Before|Cut|Extent|Examples|Bench|Tests|Room|Worked|Image|Sampled|Loop|Walking|DemandOne|DemandTwo|DemandThree|HandlerIsFirmware|ModeStays|Following|Serving|Addresses|Writing|Painting|Drawing|Draws'
 lines() { cat /dev/null "$@" 2>/dev/null | grep -cv '^[[:space:]]*$'; }
 all_code=0 all_proof=0
 printf '%-14s %6s %12s %6s\n' crate code definitions proof

@@ -61,7 +61,7 @@ use Rattle.door.specs.Door.{doorFind}
 use Rattle.lanes.specs.Lanes.{driven, shorterOf}
 use Rattle.demands.specs.Calls.{DoorCall, setUp, readRegister, writeRegister, feedSample, callHandler, runTrace, Host, host, reply, atDoor, told, inWindow, hasWindow, byDefinition, ImageOf, ImageOfNone, shownCON1, SetsReserved, HasTenBits, SetsNoMode, ChangesMode, MasksTenBits, SetUpFor, FitsNot, SomeAbove, Cause, _when_, causes, lookCauses, findCauses, Numbered, OnlyBeside, Beside, drawLanes, drawnLevels}
 use Rattle.demands.specs.Demands.{OneOutcome, RefusedKeeps, OutsideKept, ExactCauses, ItemBeside, DemandOne}
-use Rattle.demands.specs.DemandTwo.{image-or-none, by-image, draw-six, look-is, shown-is}
+use Rattle.demands.specs.DemandTwo.{image-or-none, by-image, look-is, shown-is}
 
 pub one-reply : OneOutcome
 one-reply before c r t a b e f = let one = one-lent e f in (one .0, ap₂ host (one .1) (one .2))
@@ -119,7 +119,7 @@ outside-the-window h start n items levels lanes = (
       (λ s image.
       let w : Served = served s (h .buffer) in
       outside-if w start n items (hasWindow w start n) (ltb (firstBad items) (length items)) (firstBad items) refl),
-  by-image h (drawLanes start n levels lanes) (draw-six h start n levels lanes) (λ r. SameOutside start n (h .buffer) (r .left .buffer))
+  by-image h (drawLanes start n levels lanes) (λ e. rw e) (λ r. SameOutside start n (h .buffer) (r .left .buffer))
       (λ nobody. record { below = refl; above = refl })
       (λ s image.
       let w : Served = served s (h .buffer) in
@@ -414,7 +414,7 @@ module _ (h : Host) where
       let bad : Bool = ltb (firstBad items) (length items) in
       window-looks w start n (firstBad items) (map itemAt items) (hasWindow w start n) bad (fits-not h start n s image) (above-looks 4 items bad refl (λ no. none)))
   looked (drawLanes start n levels lanes) =
-      on-image (drawLanes start n levels lanes) (draw-six h start n levels lanes)
+      on-image (drawLanes start n levels lanes) (λ e. rw e)
       (λ s image.
       let w : Served = served s (h .buffer) in
       let part : List ℕ = drawnLevels levels lanes in

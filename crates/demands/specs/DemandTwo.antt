@@ -47,7 +47,7 @@ use Rattle.settling.specs.declared.Answer.{Answer}
 use Rattle.settling.specs.Outcome.{Outcome, Lent, lent, done, refused, settled, settledAccess, noState, byState, byAccess}
 use Rattle.settling.specs.Left.{ImageOfSome}
 use Rattle.settling.specs.Theorems.{stays}
-use Rattle.firmware_calls.specs.Calls.{setupIf, doorSetup, settledWork, DrawnLent, drawnLent, settledDrawing}
+use Rattle.firmware_calls.specs.Calls.{setupIf, doorSetup, settledWork}
 use Rattle.firmware_calls.specs.Theorems.{setup-keeps}
 use Rattle.module_calls.specs.Calls.{moduleIn, imageWith, levelVerdict, doorLook, doorHit}
 use Rattle.doorkept.specs.Image.{setup-leaves, read-stays, write-stays, sample-stays, call-stays, run-stays, draw-stays}
@@ -183,7 +183,7 @@ module _ (w : Served) where
         ∙ judged-if start n (hasWindow w start n) (ltb (firstBad items) (length items)) (firstBad items) (ranIn s (w .bytes) start n items) (map itemAt items) (λ e. refl)
     one-call (drawLanes start n levels lanes) =
         let part : List ℕ = drawnLevels levels lanes in
-        ap (λ (d : DrawnLent). lends (d .work)) (on-state (drawnLent (lent (noState bytes) (w .bytes)) lanes) (λ t. settledDrawing bytes (drawInOf t (w .bytes) start n levels lanes)) s v)
+        ap lends (on-state (lent (noState bytes) (w .bytes)) (λ t. settledWork bytes (drawInOf t (w .bytes) start n levels lanes .outcome)) s v)
         ∙ judged-if start n (hasWindow w start n) (ltb (firstAbove 3 part) (length part)) (firstAbove 3 part) (lanedIn s (w .bytes) start n part .left)
         (map itemAt (driven (served s (windowOf start n (w .bytes))) part)) (drawn-same start n part)
 
@@ -211,16 +211,6 @@ by-image h c six P p q =
     ⊎-elim (λ k. subst P (sym (six (k .0))) (p (k .1)))
     (λ k. subst P (sym (at-image (k .0) h c (k .2))) (q (k .0) (k .2)))
     (image-or-none (h .state))
-
--- A drawing answers 6 where there is no state.
-pub draw-six :
-    (h : Host) (start n : ℕ) (levels lanes : List ℕ) → decodeOf (h .state) ≡ none → atDoor h (drawLanes start n levels lanes) ≡ reply (refused NoState 0) h
-unfolding byState
-draw-six h start n levels lanes e =
-    ap
-    (λ (found : Option State).
-    let o : Lent = byState found (drawnLent (lent (noState (h .state)) (h .buffer)) lanes) (λ s. settledDrawing (h .state) (drawInOf s (h .buffer) start n levels lanes)) .work in
-    reply (o .outcome .answer) (host (o .outcome .state) (o .buffer))) e
 
 -- ---- an image stays an image, so the next state is one
 image-stays : (h : Host) (c : DoorCall) → ImageOfSome decodeOf (h .state) → ImageOfSome decodeOf (atDoor h c .left .state)

@@ -1,9 +1,9 @@
 -- A drawing is a run of the record as a trace, and cut anywhere it goes on where it was.
-use Prim.Native.Nat.{ℕ, _+_, _<_, _≤_}
+use Prim.Native.Nat.{ℕ, _+_}
 use mathlib.Core.Logic.{⊎-elim}
 use mathlib.Core.Path.{_≡_, refl, sym, ap, ap₂, subst, _∙_}
 use mathlib.Core.Bool.{Bool, true, false, cond}
-use mathlib.Core.List.{List, [], _∷_, _++_, map, append-nil}
+use mathlib.Core.List.{List, _++_, map, append-nil}
 use native.Mathlib.Omega.{arith}
 use lib.Dec.{T, eqb, ltb}
 use lib.ListN.{length, take, drop, length-append, drop-of-length-le}
@@ -11,25 +11,23 @@ use lib.Seq.{take-length, length-take-le}
 use borrow.Author.Tests.{ltb-false}
 use Rattle.items.specs.First.{firstAbove, NoneAbove}
 use Rattle.items.specs.Theorems.{none-above}
-use Rattle.refusals.specs.Numbers.{accepted}
 use Rattle.firmware.specs.declared.State.{State}
 use Rattle.firmware.specs.Handler.{Served, served}
-use Rattle.firmware.specs.Window.{windowOf, splice}
-use Rattle.trace.specs.Run.{itemAt, firstBad, runFrom}
+use Rattle.firmware.specs.Window.{windowOf}
+use Rattle.trace.specs.Run.{itemAt, firstBad}
 use Rattle.trace.specs.Window.{checked}
-use Rattle.lanes.specs.Lanes.{allTaken, allWords, driven, shorterOf, Drawing, drawnIf, lanedIn, drawInOf}
+use Rattle.lanes.specs.Lanes.{allTaken, allWords, driven, shorterOf, drawnIf, lanedIn, drawInOf}
 use Rattle.lanes.specs.Laws.{words-length, shorter-within}
 use Rattle.lanes.specs.Theorems.{words-joined, driven-joined, taken-is-run, driven-items}
 use Rattle.image.specs.Image.{validState, decodeOf, encodeOf}
 use Rattle.image.specs.Theorems.{decode-exactly}
-use Rattle.settling.specs.Outcome.{lent, noState, done}
+use Rattle.settling.specs.Outcome.{done, byState}
 use Rattle.settling.specs.Left.{ImageOfSome}
 use Rattle.doorkept.specs.Image.{draw-stays}
-use Rattle.firmware_calls.specs.Calls.{DrawnLent, drawnLent, settledDrawing}
 use Rattle.door.specs.Door.{Drawn, doorDraw}
-use Rattle.demands.specs.Calls.{drawLanes, drawnLevels, runTrace, Host, host, Reply, reply, atDoor, byDefinition, hasWindow, inWindow, ImageOf}
+use Rattle.demands.specs.Calls.{drawLanes, drawnLevels, runTrace, Host, Reply, reply, atDoor, hasWindow, inWindow, ImageOf}
 use Rattle.demands.specs.Demands.{DrawIsRun, DrawnInParts}
-use Rattle.demands.specs.DemandTwo.{image-is, at-image, on-state, imageHost, imageReply, image-or-none, draw-six}
+use Rattle.demands.specs.DemandTwo.{image-is, at-image, on-state, imageHost, imageReply, image-or-none}
 use Rattle.demands.specs.DemandThree.{good-first, good-rest, none-bad, was-run, ranOn, ran-fits, ran-on, left-window}
 
 -- ---- what an accepted drawing has found: a window that fits, and levels alone
@@ -72,8 +70,7 @@ module _ (s : State) (h : Host) (start n : ℕ) (levels lanes : List ℕ) (image
     lanes-drawn =
         let words : List ℕ = allWords window part in
         ap (λ (b : List ℕ). doorDraw b (h .buffer) start n levels lanes .lanes) (sym (image .0))
-        ∙ ap (λ (d : DrawnLent). d .lanes)
-        (on-state (drawnLent (lent (noState (encodeOf s)) (h .buffer)) lanes) (λ t. settledDrawing (encodeOf s) (drawInOf t (h .buffer) start n levels lanes)) s (image .1))
+        ∙ on-state lanes (λ t. drawInOf t (h .buffer) start n levels lanes .lanes) s (image .1)
         ∙ ap₂ (λ (f bad : Bool). drawnIf (checked f bad (firstAbove 3 part) s (h .buffer) (lanedIn s (h .buffer) start n part .left)) words lanes .lanes) (k .fits) (k .tested)
         ∙ ap (λ (x : ℕ). words ++ drop x lanes) (words-length window part)
 
@@ -164,8 +161,9 @@ module _ (s : State) (h : Host) (image : ImageOf s (h .state)) (start n : ℕ) (
       )
 
 pub drawn-in-parts : DrawnInParts
+unfolding byState
 drawn-in-parts h start n a b la lb ea eb e =
-    ⊎-elim (λ k. absurd (six-first (ap (λ (r : Reply Host). r .answer .refusal) (draw-six h start n (a ++ b) (la ++ lb) (k .0)))))
+    ⊎-elim (λ k. let six : _≡_ {A = ℕ} 6 0 = rw (k .0) at e in absurd (omega arith))
     (λ k.
     let s : State = k .0 in
     let image : ImageOf s (h .state) = k .2 in
@@ -185,6 +183,3 @@ drawn-in-parts h start n a b la lb ea eb e =
           ∙ ap₂ _++_ (sym (whole-lanes s h start n a la image ea fits (good-first a b good))) (sym (rest .3)),
     ))
     (image-or-none (h .state))
-  where
-    six-first : atDoor h (drawLanes start n (a ++ b) (la ++ lb)) .answer .refusal ≡ 6 → ⊥
-    six-first six = let z : _≡_ {A = ℕ} 6 0 = sym six ∙ e in omega arith

@@ -33,10 +33,10 @@ use Rattle.image.specs.HandlerPart.{handlerValid}
 use Rattle.image.specs.Image.{imageLength, validState, encodeOf, decodeOf}
 use Rattle.image.specs.Theorems.{decode-encode, decode-valid}
 use Rattle.lanes.specs.Lanes.{drawInOf}
-use Rattle.settling.specs.Outcome.{lent, settled, noState, byAccess}
+use Rattle.settling.specs.Outcome.{settled, byAccess}
 use Rattle.settling.specs.Left.{ImageOfSome, Leaves}
-use Rattle.settling.specs.Theorems.{by-state, refused-never-accepted, settled-leaves, state-leaves, access-leaves, state-leaves-lent, stays}
-use Rattle.firmware_calls.specs.Calls.{setupIf, doorSetup, settledWork, byWork, doorCall, doorRun, DrawnLent, drawnLent, settledDrawing, doorLanes}
+use Rattle.settling.specs.Theorems.{refused-never-accepted, settled-leaves, state-leaves, access-leaves, state-leaves-lent, stays}
+use Rattle.firmware_calls.specs.Calls.{setupIf, doorSetup, settledWork, byWork, doorCall, doorRun, doorLanes}
 use Rattle.firmware_calls.specs.Theorems.{call-keeps, run-keeps, draw-keeps}
 use Rattle.module_calls.specs.Calls.{moduleIn, imageWith, doorRead, doorWrite, levelVerdict, doorSample}
 use Rattle.module_calls.specs.Theorems.{read-keeps, write-keeps, sample-keeps}
@@ -129,12 +129,7 @@ module _ (bytes : List ℕ) where
       run-leaves items = work-leaves (λ s. runInOf s buffer start n items) (λ s v. run-in-kept s buffer start n items v)
 
       pub draw-leaves : (items lanes : List ℕ) → Leaves decodeOf (doorLanes bytes buffer start n items lanes .work .outcome)
-      draw-leaves items lanes =
-          by-state (λ (d : DrawnLent). Leaves decodeOf (d .work .outcome)) (decodeOf bytes) (drawnLent (lent (noState bytes) buffer) lanes)
-          (λ s. settledDrawing bytes (drawInOf s buffer start n items lanes)) (refused-never-accepted decodeOf NoState 0 bytes)
-          (λ s e.
-          let o : WindowOutcome = drawInOf s buffer start n items lanes .outcome in
-          settled-leaves decodeOf (o .verdict) (o .item) bytes (image-of (o .state) (draw-in-kept s buffer start n items lanes (given s e))))
+      draw-leaves items lanes = work-leaves (λ s. drawInOf s buffer start n items lanes .outcome) (λ s v. draw-in-kept s buffer start n items lanes v)
 
 -- ---- an image stays an image, whatever is settled
 module _ (bytes : List ℕ) (image : ImageOfSome decodeOf bytes) where

@@ -45,9 +45,7 @@ pub record DrawnLent : Type 0 where
 abbrev pub drawnLent : Lent → List ℕ → DrawnLent
 drawnLent work lanes = record { work = work; lanes = lanes }
 
-abbrev pub settledDrawing : List ℕ → Drawing → DrawnLent
-settledDrawing bytes d = drawnLent (settledWork bytes (d .outcome)) (d .lanes)
-
 abbrev pub doorLanes : List ℕ → List ℕ → ℕ → ℕ → List ℕ → List ℕ → DrawnLent
 doorLanes bytes buffer start n items lanes =
-    byState (decodeOf bytes) (drawnLent (lent (noState bytes) buffer) lanes) (λ s. settledDrawing bytes (drawInOf s buffer start n items lanes))
+    let work : State → Drawing = λ s. drawInOf s buffer start n items lanes in
+    drawnLent (byWork (λ s. work s .outcome) bytes buffer) (byState (decodeOf bytes) lanes (λ s. work s .lanes))

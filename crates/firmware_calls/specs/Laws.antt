@@ -1,6 +1,6 @@
 -- What the code of the handler's calls knows on each way, and what follows.
 use Prim.Native.Nat.{ℕ}
-use mathlib.Core.Path.{_≡_, sym, ap, ap₂, _∙_}
+use mathlib.Core.Path.{_≡_, sym, ap, _∙_}
 use mathlib.Core.List.{List}
 use lib.ListN.{length}
 use borrow.Author.Tests.{eq-eqb, ne-eqb}
@@ -18,8 +18,7 @@ use Rattle.image.specs.Laws.{encode-length}
 use Rattle.settling.specs.declared.Answer.{Answer}
 use Rattle.settling.specs.Outcome.{Outcome, outcome, lent, refused, imageOver, settled}
 use Rattle.settling.specs.Laws.{settled-whole}
-use Rattle.lanes.specs.Lanes.{Drawing, drawing}
-use Rattle.firmware_calls.specs.Calls.{doorSetup, settledWork, drawnLent, settledDrawing}
+use Rattle.firmware_calls.specs.Calls.{doorSetup, settledWork}
 
 -- ---- set-up
 module _ (bytes : List ℕ) (add n : ℕ) where
@@ -46,10 +45,3 @@ pub work-settled :
     → left ≡ settled verdict item (imageOver image bytes) bytes → lent left buffer ≡ settledWork bytes o
 work-settled bytes verdict next {buffer = buffer} {item = item} l is e f =
     ap (λ (x : Outcome). lent x buffer) (settled-whole verdict item (encodeOf next) bytes l is f) ∙ ap (settledWork bytes) e
-
-pub drawing-settled :
-    (bytes : List ℕ) (verdict : Verdict) (next : State) {image buffer lanes : List ℕ} {left : Outcome} {item : ℕ} {d : Drawing}
-    → length bytes ≡ length (encodeOf next) → image ≡ encodeOf next → drawing (windowOutcome verdict item next buffer) lanes ≡ d
-    → left ≡ settled verdict item (imageOver image bytes) bytes → drawnLent (lent left buffer) lanes ≡ settledDrawing bytes d
-drawing-settled bytes verdict next l is e f =
-    ap₂ drawnLent (work-settled bytes verdict next l is (ap (λ (x : Drawing). x .outcome) e) f) (ap (λ (x : Drawing). x .lanes) e)

@@ -4,6 +4,7 @@ use Prim.Native.Nat.{ℕ, _<_}
 use mathlib.Core.Path.{_≡_, refl, sym}
 use mathlib.Core.Bool.{Bool, true, false, cond}
 use mathlib.Core.List.{List, _++_}
+use mathlib.Core.Option.{Option, none, some}
 use native.Mathlib.Omega.{arith}
 use lib.Dec.{eqb, ltb}
 use lib.ListN.{length, take, drop}
@@ -20,9 +21,9 @@ use Rattle.items.specs.First.{firstAbove}
 use Rattle.trace.specs.Window.{ranIn, checked, judgedOf, runInOf}
 use Rattle.lanes.specs.Lanes.{lanedIn, shorterOf, drawInOf}
 use Rattle.image.specs.Image.{imageLength, encodeOf, decodeOf}
-use Rattle.settling.specs.Outcome.{lent, settled, noState, Keeps, KeepsLent}
-use Rattle.settling.specs.Theorems.{by-state, settled-keeps-lent, state-keeps-lent}
-use Rattle.firmware_calls.specs.Calls.{setupIf, doorSetup, settledWork, byWork, doorCall, doorRun, DrawnLent, drawnLent, settledDrawing, doorLanes}
+use Rattle.settling.specs.Outcome.{lent, settled, noState, byState, Keeps, KeepsLent}
+use Rattle.settling.specs.Theorems.{settled-keeps-lent, state-keeps-lent}
+use Rattle.firmware_calls.specs.Calls.{setupIf, doorSetup, settledWork, byWork, doorCall, doorRun, DrawnLent, doorLanes}
 
 setup-if : (fits : Bool) (made : Made) (bytes : List ℕ) → Keeps bytes (setupIf fits made bytes)
 setup-if false made bytes h = refl
@@ -71,30 +72,28 @@ module _ (bytes buffer : List ℕ) where
         work-keeps (λ s. runInOf s buffer start n items)
         (λ s. judged-keeps 4 s buffer start n items (ranIn s buffer start n items))
 
-    -- A refused drawing leaves the buffer, and the lanes too.
     pub draw-keeps : (items lanes : List ℕ) → KeepsLent bytes buffer (doorLanes bytes buffer start n items lanes .work)
     draw-keeps items lanes =
         let part : List ℕ = take (shorterOf (length items) (length lanes)) items in
-        by-state (λ (d : DrawnLent). KeepsLent bytes buffer (d .work)) (decodeOf bytes) (drawnLent (lent (noState bytes) buffer) lanes)
-        (λ s. settledDrawing bytes (drawInOf s buffer start n items lanes)) (λ h. (refl, refl))
-        (λ s e.
-        let o : WindowOutcome = drawInOf s buffer start n items lanes .outcome in
-        settled-keeps-lent bytes buffer (o .verdict) (o .item) (encodeOf (o .state)) (judged-keeps 3 s buffer start n part (lanedIn s buffer start n part .left)))
+        work-keeps (λ s. drawInOf s buffer start n items lanes .outcome) (λ s. judged-keeps 3 s buffer start n part (lanedIn s buffer start n part .left))
 
-lanes-if :
-    (v : Verdict) (item : ℕ) (image bytes words lanes : List ℕ) → 0 < settled v item image bytes .answer .refusal
-    → cond (accepted v) words lanes ≡ lanes
+-- Refused, a drawing leaves the lanes.
+lanes-if : (v : Verdict) (item : ℕ) (image bytes words lanes : List ℕ) → 0 < settled v item image bytes .answer .refusal → cond (accepted v) words lanes ≡ lanes
 lanes-if (Done value) item image bytes words lanes h = absurd (omega arith)
 lanes-if (Refused why) item image bytes words lanes h = refl
 
 pub lanes-keep :
     (bytes buffer : List ℕ) (start n : ℕ) (items lanes : List ℕ) → let d : DrawnLent = doorLanes bytes buffer start n items lanes in
     0 < d .work .outcome .answer .refusal → d .lanes ≡ lanes
-lanes-keep bytes buffer start n items lanes =
-    by-state (λ (d : DrawnLent). 0 < d .work .outcome .answer .refusal → d .lanes ≡ lanes) (decodeOf bytes)
-    (drawnLent (lent (noState bytes) buffer) lanes) (λ s. settledDrawing bytes (drawInOf s buffer start n items lanes)) (λ h. refl)
-    (λ s e h.
-    let part : List ℕ = take (shorterOf (length items) (length lanes)) items in
-    let words : List ℕ = lanedIn s buffer start n part .lanes in
-    let o : WindowOutcome = drawInOf s buffer start n items lanes .outcome in
-    lanes-if (o .verdict) (o .item) (encodeOf (o .state)) bytes (words ++ drop (length words) lanes) lanes h)
+unfolding byState
+lanes-keep bytes buffer start n items lanes = by (decodeOf bytes)
+  where
+    by :
+        (found : Option State)
+        → 0 < byState found (lent (noState bytes) buffer) (λ s. settledWork bytes (drawInOf s buffer start n items lanes .outcome)) .outcome .answer .refusal
+        → byState found lanes (λ s. drawInOf s buffer start n items lanes .lanes) ≡ lanes
+    by none h = refl
+    by (some s) h =
+        let o : WindowOutcome = drawInOf s buffer start n items lanes .outcome in
+        let words : List ℕ = lanedIn s buffer start n (take (shorterOf (length items) (length lanes)) items) .lanes in
+        lanes-if (o .verdict) (o .item) (encodeOf (o .state)) bytes (words ++ drop (length words) lanes) lanes h

@@ -1,6 +1,6 @@
 -- The lanes of a wire record: its items drawn one after the other, over a window of the caller's buffer; and the refusals, 5 before 4.
 use Prim.Native.Nat.{ℕ}
-use mathlib.Core.Bool.{Bool, cond}
+use mathlib.Core.Bool.{cond}
 use mathlib.Core.List.{List, [], _∷_, _++_}
 use lib.Dec.{ltb}
 use lib.ListN.{length, take, drop}

@@ -18,7 +18,7 @@ use Rattle.firmware.specs.Laws.{part-back}
 use Rattle.trace.specs.Window.{judgedOf}
 use Rattle.trace.specs.Laws.{work-refused, all-done}
 use Rattle.words.specs.Words.{itemTaken}
-use Rattle.lanes.specs.Lanes.{allTaken, allWords, Laned, laned, lanedOf, lanedIn, shorterOf, Drawing, drawing, drawnIf, drawItems, drawInOf}
+use Rattle.lanes.specs.Lanes.{allTaken, allWords, Laned, laned, lanedOf, lanedIn, shorterOf, drawing, drawnIf, drawItems, drawInOf}
 
 -- As many words as items.
 pub words-length : (w : Served) (items : List ℕ) → length (allWords w items) ≡ length items

@@ -3,6 +3,5 @@ pub mod Lanes
 pub mod Writing
 pub mod Painting
 pub mod Drawing
-pub mod Loop
 pub mod Laws
 pub mod Theorems

@@ -1,7 +1,7 @@
 -- The words of a stretch, painted: while nothing but bits and wire move, a word is its standing part with the wire, with SDA pulled
 -- and with a conflict, if there is one.
 use Prim.Native.Nat.{ℕ, zero, suc, _+_, _%_}
-use mathlib.Core.Bool.{Bool, true, false, cond, _&&_, _||_, not}
+use mathlib.Core.Bool.{Bool, false, cond, _&&_, _||_, not}
 use mathlib.Core.List.{List, [], _∷_}
 use lib.Dec.{eqb}
 use lib.ListN.{drop}

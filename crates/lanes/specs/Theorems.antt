@@ -1,19 +1,19 @@
 -- What a drawing is, said without its code: a run of the record as a trace; and a record drawn in two parts is drawn as a whole.
-use Prim.Native.Nat.{ℕ, zero, suc, _<_, _≤_}
+use Prim.Native.Nat.{ℕ, suc, _≤_}
 use mathlib.Core.Path.{_≡_, refl, sym, ap, _∙_}
 use mathlib.Core.Bool.{Bool, true, false, cond}
 use mathlib.Core.List.{List, [], _∷_, _++_}
 use native.Mathlib.Omega.{arith}
-use lib.Dec.{eqb, leb, ltb}
+use lib.Dec.{eqb, ltb}
 use lib.ListN.{length}
 use borrow.Author.Tests.{lt-ltb, le-ltb, le-leb}
-use Rattle.items.specs.First.{leading, firstAbove, NoneAbove}
+use Rattle.items.specs.First.{leading, NoneAbove}
 use Rattle.wire.specs.Wire.{sclOf, sdaOf}
 use Rattle.firmware.specs.Handler.{Served}
 use Rattle.steps.specs.declared.Item.the-variants.{Sample}
 use Rattle.steps.specs.Step.{after, afterAll}
 use Rattle.trace.specs.Run.{itemIf, runFrom, firstBad}
-use Rattle.words.specs.Words.{isCalled, metIf, met, itemTaken, wordAt}
+use Rattle.words.specs.Words.{isCalled, metIf, itemTaken, wordAt}
 use Rattle.lanes.specs.Lanes.{allTaken, allWords, driven}
 
 -- ---- in two parts

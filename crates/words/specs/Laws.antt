@@ -1,6 +1,6 @@
 -- The way through an item: what the code knows of its parts, and what follows.
 use Prim.Native.Nat.{ℕ}
-use mathlib.Core.Path.{_≡_, refl, sym, ap, _∙_}
+use mathlib.Core.Path.{_≡_, refl, ap, _∙_}
 use mathlib.Core.Bool.{Bool, true, false, cond, _&&_}
 use mathlib.Core.List.{List}
 use Rattle.wire.specs.declared.Edge.{Edge}
@@ -11,7 +11,7 @@ use Rattle.mssp.specs.Drivers.{sclPulled, sdaPulled}
 use Rattle.sampling.specs.Rules.{seenIf, sampled}
 use Rattle.firmware.specs.declared.State.{State}
 use Rattle.firmware.specs.Handler.{Served, served, stateOf}
-use Rattle.words.specs.Words.{isCalled, storing, metIf, met, itemTaken, edgeAt, movedBy, inConflict, eventsOf, linesOf, standingOf, wordBy, wordOf, DrawnItem, drawn, drawnItem}
+use Rattle.words.specs.Words.{isCalled, storing, metIf, edgeAt, movedBy, inConflict, eventsOf, linesOf, standingOf, wordBy, wordOf, DrawnItem, drawn, drawnItem}
 
 -- The edge that the module reads, or none, leads where the sample does.
 moves-if :

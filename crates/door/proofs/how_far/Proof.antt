@@ -1,5 +1,4 @@
 -- `door::how_far` meets its contract.
-use borrow.Author.Needs.{needs}
 use borrow.Author.Tests.{eq-eqb, ne-eqb}
 use Rattle.door.proofs.how_far.Statement.{statement}
 use Rattle.door.proofs.how_far.Tie as tie

@@ -5,7 +5,7 @@ use mathlib.Core.Path.{_∙_}
 use native.Mathlib.Omega.{arith}
 use lib.ListN.{length}
 use Rattle.firmware.specs.Handler.{served}
-use Rattle.lanes.specs.Loop.{Underway, drawing-begins, stretch-inside, stretch-drawn, item-next, drawing-ends, stretch-alike, window-stays}
+use Rattle.lanes.specs.Drawing.{Underway, drawing-begins, stretch-inside, stretch-drawn, item-next, drawing-ends, stretch-alike, window-stays}
 use Rattle.lanes.proofs.draw.Statement.{statement}
 use Rattle.lanes.proofs.draw.Tie as tie
 

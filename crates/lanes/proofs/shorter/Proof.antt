@@ -1,5 +1,4 @@
 -- `lanes::shorter` meets its contract.
-use borrow.Author.Needs.{needs}
 use borrow.Author.Tests.{lt-ltb, le-ltb}
 use Rattle.lanes.proofs.shorter.Statement.{statement}
 use Rattle.lanes.proofs.shorter.Tie as tie
