@@ -14,7 +14,9 @@ import sys
 HERE = os.path.dirname(os.path.abspath(__file__))
 TOOL = os.path.join(HERE, "..", "tools", "convert.py")
 sys.path.insert(0, os.path.join(HERE, "..", "tools"))
+sys.path.insert(0, os.path.join(HERE, "command"))
 import convert  # noqa: E402
+from common import expect, finish  # noqa: E402
 
 HEAD = b"$timescale 1 us $end\n$var wire 1 ! SCL $end\n$var wire 1 # SDA $end\n$enddefinitions $end\n"
 
@@ -52,16 +54,6 @@ WRONG = [
     ("the last line cut", "vcd", HEAD + b"#0 1! 1#\n#1 0", "cut short"),
     ("not ASCII", "vcd", HEAD + b"#0 1! 1#\n\xff\n", "not ASCII"),
 ]
-
-counts = {"checks": 0, "failures": 0}
-
-
-def expect(fine, what):
-    counts["checks"] += 1
-    if not fine:
-        counts["failures"] += 1
-        print(f"failed: {what}")
-
 
 def tool(*words):
     return subprocess.run([sys.executable, "-B", TOOL, *words], stdout=subprocess.PIPE, stderr=subprocess.PIPE, check=False)
@@ -250,8 +242,7 @@ def main(arguments):
     if shutil.which("sigrok-cli"):
         by_sigrok(out, captures)
     at_random(4000)
-    print(f"checks {counts['checks']} failures {counts['failures']}")
-    return 0 if counts["failures"] == 0 else 1
+    return finish()
 
 
 if __name__ == "__main__":

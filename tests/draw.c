@@ -1,5 +1,6 @@
 /* Checks drawings through the door: words by hand on small records, lanes and refusals at every edge, every cut of a record, and
    random traffic on random states beside the single calls. */
+#include "expect.h"
 #include "modes.h"
 #include "traffic.h"
 #include "words.h"
@@ -17,21 +18,10 @@ enum { LONG_RUN = 100000 }; /* random items from which on every phase and every 
 /* What stands in lanes that no word was written to. */
 static const uint64_t filler = 0x5A5A5A5A5A5A5A5Au;
 
-/* The state under check, its buffer with the window at START, a record and its lanes, and the counts. */
+/* The state under check, its buffer with the window at START, a record and its lanes. */
 static uint8_t image[IMAGE], buffer[BUFFER], record[LONGEST];
 static uint64_t lanes[LONGEST + BEHIND];
 static const word_scene scene = {image, buffer, BUFFER, START, N};
-static unsigned long checks, failures;
-
-/* Counts a check and tells it when it fails. */
-static void expect(int fine, const char *what, unsigned long more)
-{
-    checks++;
-    if (fine)
-        return;
-    if (failures++ < 20)
-        printf("failed: %s (%lu)\n", what, more);
-}
 
 /* ---- States and records ---- */
 

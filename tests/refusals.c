@@ -1,4 +1,5 @@
 /* Checks through the door every refusal by each of its causes, alone and beside every other, and windows at every edge. */
+#include "expect.h"
 #include "hits.h"
 #include "modes.h"
 #include "slots.h"
@@ -47,17 +48,7 @@ static uint8_t states[ALL_STATES][DOOR_IMAGE];
 static uint8_t room[ROOM], kept[ROOM], buffer[BUFFER], untouched[BUFFER], trace[LONG_TRACE];
 static uint8_t *const image = room + GUARD;
 static uint64_t lanes[LANES], long_lanes[LONG_TRACE];
-static unsigned long checks, failures, causes;
-
-/* Counts a check and tells it when it fails. */
-static void expect(int fine, const char *what, unsigned long more)
-{
-    checks++;
-    if (fine)
-        return;
-    if (failures++ < 20)
-        printf("failed: %s (%lu)\n", what, more);
-}
+static unsigned long causes;
 
 /* ---- Making states ---- */
 
