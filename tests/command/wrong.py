@@ -190,6 +190,10 @@ def options(out):
         expect(not os.path.exists(target), f"{words}: a file was left")
     for words in ([], ["draw"], ["show"]):
         expect(run(*words).status == 2, f"{words}")
+
+
+def channels(out):
+    """Channels that a binary capture has not."""
     samples = put(out, "fine.bin", LEVELS)
     for words, wanted in ((["--scl", "8"], "8 is no channel of a binary capture: 0 to 7"),
                           (["--scl", "0"], "SCL and SDA are both channel 0"),
