@@ -295,7 +295,7 @@ def main(arguments):
         print(__doc__, file=sys.stderr)
         return 2
     out = arguments[0]
-    for test in (strangers, wrong_digits, wrong_vcds, wrong_zips, wrong_tables, options, pictures, programs):
+    for test in (strangers, wrong_digits, wrong_vcds, wrong_zips, wrong_tables, options, channels, pictures, programs):
         test(out)
     streams()
     at_random(3000)
