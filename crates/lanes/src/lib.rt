@@ -5,7 +5,7 @@ ghost use mathlib.Core.Path.{_≡_};
 ghost use lib.ListN.{length};
 ghost use Rattle.firmware.specs.Handler.{served};
 ghost use Rattle.firmware.specs.Window.{windowOutcome};
-ghost use Rattle.words.specs.Words.{mostStanding, standingOf};
+ghost use Rattle.words.specs.Words.{mostStanding};
 ghost use Rattle.lanes.specs.Paint.{brushIn, brushOn, inkOf, painted, repeated, sameUntil};
 ghost use Rattle.lanes.specs.Lanes.{freeOf, freeStretch, laned, lanedOf, lanedIn, shorterOf, drawing, drawInOf};
 use firmware::State;

@@ -1,12 +1,10 @@
 // Which modules there are, clause by clause.
 ghost use mathlib.Core.Path.{_≡_};
-ghost use Rattle.wire.specs.Wire.{sclHigh};
 ghost use Rattle.mssp.specs.Phases.{isQuiet, ofTenBits};
 ghost use Rattle.mssp.specs.Valid.{bitsFit, partsFit, addressBegins, validBy};
 use mssp::Phase;
 use wire::Bits;
 use wire::Line;
-use wire::Remembered;
 
 // At most eight bits, and a number that they can make.
 fn bits_fit(bits: Bits) -> bool
