@@ -15,8 +15,8 @@
      and is never misread. Of the images of 0.3.0 those of an acknowledge slot that does not pull are refused: they do not
      say whether the byte was. The layout is in docs/LAYOUT.md.
    - wherryoar_view has grown at its end with 0.6.0: a host is compiled against the header of the archive that it links.
-   - A call takes at most 704 bytes of stack, wherryoar_sample at most 512, and at most 300 where the sample leaves the state
-     as it is: the level is on the wire what is remembered of it.
+   - A call takes at most 704 bytes of stack, wherryoar_draw at most 768; wherryoar_sample at most 512, and at most 300 where
+     the sample leaves the state as it is: the level is on the wire what is remembered of it.
    - Compiled for x86-64.                                                                                             */
 
 /* How to use it, for the programmer of a scope.

@@ -11,8 +11,8 @@ archive=target/staticlib/libdoor.a
 build_archive || exit 1
 short_way="wherryoar_sample without module_calls::move_on" # the sample that moves nothing
 if [ $# -eq 0 ]; then
-    set -- "wherryoar_sample within 512" "$short_way within 300"
-    for function in draw run call write read look setup hit find; do
+    set -- "wherryoar_sample within 512" "$short_way within 300" "wherryoar_draw within 768"
+    for function in run call write read look setup hit find; do
         set -- "$@" "wherryoar_$function within 704"
     done
 fi

@@ -367,7 +367,7 @@ fn on_rise(l: Live, phase: Phase, sda: bool) -> Moved
 }
 
 // What an edge does to the module.
-pub fn on_edge(c: Config, l: Live, phase: Phase, e: Edge) -> Moved
+fn on_edge(c: Config, l: Live, phase: Phase, e: Edge) -> Moved
     ensures { λ r. ⌜ r ≡ edgeStep c l phase e ⌝ }
 {
     match e {

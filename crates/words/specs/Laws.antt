@@ -1,28 +1,15 @@
 -- The way through an item: what the code knows of its parts, and what follows.
 use Prim.Native.Nat.{ℕ}
-use mathlib.Core.Path.{_≡_, refl, ap, _∙_}
-use mathlib.Core.Bool.{Bool, true, false, cond, _&&_}
+use mathlib.Core.Path.{_≡_, ap}
+use mathlib.Core.Bool.{Bool, _&&_}
 use mathlib.Core.List.{List}
 use Rattle.wire.specs.declared.Edge.{Edge}
-use Rattle.wire.specs.declared.Edge.the-variants.{Still}
-use Rattle.wire.specs.Wire.{sclOf, sdaOf, onWire, edgeOf}
+use Rattle.wire.specs.Wire.{sclOf, sdaOf}
 use Rattle.mssp.specs.declared.Module.{Module}
-use Rattle.mssp.specs.Drivers.{sclPulled, sdaPulled}
-use Rattle.sampling.specs.Rules.{seenIf, sampled}
+use Rattle.sampling.specs.Rules.{sampled}
 use Rattle.firmware.specs.declared.State.{State}
 use Rattle.firmware.specs.Handler.{Served, served, stateOf}
-use Rattle.words.specs.Words.{isCalled, storing, metIf, edgeAt, movedBy, inConflict, eventsOf, linesOf, standingOf, wordBy, wordOf, DrawnItem, drawn, drawnItem}
-
--- The edge that the module reads, or none, leads where the sample does.
-moves-if :
-    (on : Bool) (m : Module) (item : ℕ) → let scl : Bool = onWire (sclPulled (m .phase)) (sclOf item) in
-    let sda : Bool = onWire (sdaPulled (m .phase)) (sdaOf item) in
-    movedBy m (cond on (edgeOf (m .line) scl sda) Still) item ≡ seenIf on m scl sda
-moves-if true m item = refl
-moves-if false m item = refl
-
-edge-moves : (m : Module) (item : ℕ) → movedBy m (edgeAt m item) item ≡ sampled m (sclOf item) (sdaOf item)
-edge-moves m item = moves-if (m .config .sspen) m item
+use Rattle.words.specs.Words.{isCalled, storing, metIf, edgeAt, inConflict, eventsOf, linesOf, standingOf, wordBy, wordOf, DrawnItem, drawn, drawnItem}
 
 -- What is drawn of an item, by the state that it meets.
 abbrev drawnFrom : Served → ℕ → Served → DrawnItem
@@ -32,20 +19,11 @@ drawnFrom w item v =
 
 module _ (w : Served) (item : ℕ) {called stores : Bool} (c : called ≡ isCalled (w .state .mssp .phase) item) (t : stores ≡ storing (w .state)) where
   module _ {before : State} {left : List ℕ} (m : served before left ≡ metIf called w) where
-    drawn-so :
+    -- The handler, the edge and the conflict, the sample, then the word.
+    pub item-drawn :
         {e : Edge} {conflict : Bool} {events lines stands word : ℕ} {n : Module} → e ≡ edgeAt (before .mssp) item
         → conflict ≡ inConflict (before .mssp .phase) item → events ≡ eventsOf called (called && stores) e conflict
         → n ≡ sampled (before .mssp) (sclOf item) (sdaOf item) → lines ≡ linesOf n → stands ≡ standingOf (stateOf n (before .handler))
         → word ≡ wordBy stands lines events
         → drawn (served (stateOf n (before .handler)) left) stands word ≡ drawnItem w item
-    drawn-so edge f v is l s o = rw (o, s, l, v, edge, f, is, t, c) (ap (drawnFrom w item) (rw c at m))
-
-    -- The handler, the edge and the conflict, the sample by its edge, then the word.
-    pub item-drawn :
-        {e : Edge} {conflict : Bool} {events lines stands word : ℕ} {n : Module} → e ≡ edgeAt (before .mssp) item
-        → conflict ≡ inConflict (before .mssp .phase) item → events ≡ eventsOf called (called && stores) e conflict
-        → n ≡ movedBy (before .mssp) e item → lines ≡ linesOf n → stands ≡ standingOf (stateOf n (before .handler))
-        → word ≡ wordBy stands lines events
-        → drawn (served (stateOf n (before .handler)) left) stands word ≡ drawnItem w item
-    item-drawn edge f v is =
-        drawn-so edge f v (is ∙ ap (λ (x : Edge). movedBy (before .mssp) x item) edge ∙ edge-moves (before .mssp) item)
+    item-drawn edge f v is l s o = rw (o, s, l, v, edge, f, is, t, c) (ap (drawnFrom w item) (rw c at m))

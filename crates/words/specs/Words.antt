@@ -8,16 +8,13 @@ use Rattle.wire.specs.declared.Edge.{Edge}
 use Rattle.wire.specs.declared.Edge.the-variants.{Still}
 use Rattle.wire.specs.declared.Remembered.{Remembered}
 use Rattle.wire.specs.declared.Remembered.the-variants.{Nothing, Wire}
-use Rattle.wire.specs.Wire.{sclOf, sdaOf, onWire, edgeOf, lineAfter, isStart, isStop}
+use Rattle.wire.specs.Wire.{sclOf, sdaOf, onWire, edgeOf, isStart, isStop}
 use Rattle.mssp.specs.declared.Phase.{Phase}
 use Rattle.mssp.specs.declared.Live.{Live}
 use Rattle.mssp.specs.declared.Module.{Module}
-use Rattle.mssp.specs.Module.{moduleOf}
 use Rattle.mssp.specs.Phases.{phaseNumber}
 use Rattle.mssp.specs.Drivers.{sclPulled, sdaPulled}
 use Rattle.register_bytes.specs.Bytes.{byteOf}
-use Rattle.sampling.specs.declared.Moved.{Moved}
-use Rattle.sampling.specs.Rules.{edgeStep}
 use Rattle.registers.specs.declared.Register.the-variants.{Stat}
 use Rattle.registers.specs.Values.{valueOf}
 use Rattle.firmware.specs.declared.State.{State}
@@ -54,13 +51,6 @@ edgeAt m item =
     cond (m .config .sspen)
     (edgeOf (m .line) (onWire (sclPulled (m .phase)) (sclOf item)) (onWire (sdaPulled (m .phase)) (sdaOf item)))
     Still
-
--- What that edge leaves of the module (`edge-moves`: it is what the sample leaves).
-abbrev pub movedBy : Module → Edge → ℕ → Module
-movedBy m e item =
-    let n : Moved = edgeStep (m .config) (m .live) (m .phase) e in
-    moduleOf (m .config) (n .live) (n .phase)
-    (lineAfter (m .line .mark) e (onWire (sclPulled (m .phase)) (sclOf item)) (onWire (sdaPulled (m .phase)) (sdaOf item)))
 
 -- The record shows both lines high while the module pulls SDA.
 abbrev pub inConflict : Phase → ℕ → Bool

@@ -3,7 +3,7 @@
 ghost use Prim.Native.Nat.{_≤_};
 ghost use mathlib.Core.Path.{_≡_};
 ghost use Rattle.firmware.specs.Handler.{served};
-ghost use Rattle.words.specs.Words.{isCalled, storing, metIf, edgeAt, movedBy, inConflict, mostStanding, standingBy, standingOf, linesBy, linesOf, eventsOf, wordBy, drawn, drawnItem};
+ghost use Rattle.words.specs.Words.{isCalled, storing, metIf, edgeAt, inConflict, mostStanding, standingBy, standingOf, linesBy, linesOf, eventsOf, wordBy, drawn, drawnItem};
 use firmware::State;
 use mssp::Module;
 use mssp::Phase;
@@ -55,26 +55,6 @@ fn edge_at(m: Module, item: u8) -> Edge
         wire::edge_of(line, scl, sda)
     } else {
         Edge::Still
-    }
-}
-
-// The module after an item whose edge is known.
-fn move_by(m: Module, edge: Edge, item: u8) -> Module
-    ensures { λ r. ⌜ r ≡ movedBy m edge item ⌝ }
-{
-    let c = m.config;
-    let phase = m.phase;
-    let line = m.line;
-    let scl = !mssp::pulls_scl(phase) & (item / 2 % 2 == 1);
-    let sda = !mssp::pulls_sda(phase) & (item / 1 % 2 == 1);
-    let moved = sampling::on_edge(c, m.live, phase, edge);
-    let live = moved.live;
-    let next = moved.phase;
-    Module {
-        config: c,
-        live: live,
-        phase: next,
-        line: wire::line_after(line.mark, edge, scl, sda),
     }
 }
 
@@ -171,7 +151,7 @@ pub fn draw_item(s: State, window: &mut [u8], item: u8) -> Drawn
     let before = m.phase;
     let edge = edge_at(m, item);
     let happened = events(called, stored, edge, is_in_conflict(before, item));
-    let left = move_by(m, edge, item);
+    let left = sampling::sample(m, item / 2 % 2 == 1, item / 1 % 2 == 1);
     let seen = lines_of(left);
     let next = State { mssp: left, ..met };
     let stands = standing(next);

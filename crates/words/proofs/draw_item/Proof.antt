@@ -8,7 +8,7 @@ use Rattle.words.proofs.draw_item.Tie as tie
 
 handler-sample-word : tie.Need-returns
 handler-sample-word c =
-    let a = c .before .before .before .before .before .before .before .before .before .before .before .before .before .before .before .before .before .args in (item-drawn (served (a .s) (now (a .window))) (a .item) (c .before .before .before .before .before .before .before .before .before .before .before .before .before .before .is-called .ensures) (c .before .before .before .before .before .before .before .before .before .before .before .before .before .is-storing .ensures) (c .before .before .before .before .before .before .before .before .before .before .before .meet .ensures) (c .before .before .before .before .before .before .before .edge-at .ensures) (c .before .before .before .before .before .before .is-in-conflict .ensures) (c .before .before .before .before .before .events .ensures) (c .before .before .before .before .move-by .ensures) (c .before .before .before .lines-of .ensures) (c .before .standing .ensures .0) (c .word .ensures), c .before .standing .ensures .1)
+    let a = c .before .before .before .before .before .before .before .before .before .before .before .before .before .before .before .before .before .args in (item-drawn (served (a .s) (now (a .window))) (a .item) (c .before .before .before .before .before .before .before .before .before .before .before .before .before .before .is-called .ensures) (c .before .before .before .before .before .before .before .before .before .before .before .before .before .is-storing .ensures) (c .before .before .before .before .before .before .before .before .before .before .before .meet .ensures) (c .before .before .before .before .before .before .before .edge-at .ensures) (c .before .before .before .before .before .before .is-in-conflict .ensures) (c .before .before .before .before .before .events .ensures) (c .before .before .before .before .sample .ensures) (c .before .before .before .lines-of .ensures) (c .before .standing .ensures .0) (c .word .ensures), c .before .standing .ensures .1)
 
 pub draw-item-spec : {M : Type 1} → statement M
 draw-item-spec =
