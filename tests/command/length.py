@@ -111,6 +111,7 @@ def bar(path):
 
 def interrupted(out, path):
     """A run that is interrupted, or ended, leaves no output behind, and what was there stays."""
+    signal.signal(signal.SIGINT, signal.default_int_handler)  # a shell's background jobs ignore it, and so would the run
     for number, status in ((signal.SIGINT, 130), (signal.SIGTERM, 143)):
         folder = os.path.join(out, f"stopped_{number}")
         os.makedirs(folder)
