@@ -9,7 +9,7 @@ program=$(pwd)/target/command/draw
 
 [ -f "$archive" ] || build_archive >&2
 mkdir -p target/command
-for part in "$archive" command/draw.c include/wherryoar.h; do
+for part in "$archive" command/draw.c command/changes.h include/wherryoar.h; do
     [ "$program" -nt "$part" ] || rm -f "$program"
 done
 if [ ! -x "$program" ]; then

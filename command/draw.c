@@ -1,13 +1,19 @@
 /* Draws a wire record with the model beside it: the record comes as a stream on standard input, what happened goes to standard
-   output as lines. The command wherryoar makes the one and formats the other.
+   output as lines, and the lanes to a file. The command wherryoar makes the one and formats the other.
 
-       draw ADD N MSK CON2 MEMORY      numbers in hex, N in decimal; MEMORY the first N bytes in hex, or - where nobody knows them
+       draw ADD N MSK CON2 MEMORY [FILE]    numbers in hex, N in decimal; MEMORY the first N bytes in hex, or - where nobody
+                                            knows them; FILE a VCD's header, to which the changes of its signals are added
+
+   Exit status: 0 done, 1 the stream was broken, 2 the words above were, 3 FILE cannot be written, and why on standard error.
 
    The stream, numbers little-endian, COUNT of 32 bits and at most CHUNK:
        r COUNT levels              items one by one, a byte of 0 to 3 each (2 * SCL + SDA)
        t COUNT times levels        the same, with a double each for their times
        k COUNT levels counts       runs of equal items, how many in 64 bits each
-       w FROM TO                   from here on lanes are told for the items from FROM up to TO (64 bits each)
+       v COUNT places FIRST STEP PARTS    before the first item, if there is a FILE: a byte for each of its signals, the bit of
+                                   4 * word + level that it is; and the clock of its times (64 bits each), as changes.h has it
+       w FROM TO MOST              from here on lanes are told for the items from FROM up to TO: in the file, and by at most MOST
+                                   lines in all (64 bits each)
        e                           the record's end
    The lines; TIME is - where none was sent, CONFLICT 1 where since the line before a time began in which the model pulls SDA
    and the record shows both lines high:
@@ -19,6 +25,7 @@
        L ITEM TIME LEVEL WORD                       the lanes from this item on
        E ITEMS PHASES SINGLES ENDED WHOLE ANSWERED..    the end: how often SCL stood, and for a single item; then for each of
                                                     the eight readings the messages that ended, were whole, and answered  */
+#include "changes.h"
 #include "wherryoar.h"
 
 #include <math.h>
@@ -158,6 +165,8 @@ typedef struct {
     uint64_t begin;       /* the first rise of the byte under way */
     byte_line line;
     uint64_t from, to;    /* the items whose lanes are told */
+    uint64_t told, most;  /* the lines that told them, and how many there may be */
+    changes vcd;
     uint64_t edge, phases, singles; /* the last SCL edge; how many times between two edges, and how many of a single item */
     reader readings[READINGS];
 } drawing;
@@ -214,10 +223,16 @@ static void print_cut_off(drawing *d, const reader *r, uint64_t end)
     d->conflict = 0;
 }
 
-static void print_lanes(const drawing *d, moment at)
+/* The lanes from an item on. */
+static void tell_lanes(drawing *d, moment at)
 {
-    print_moment('L', at);
-    printf(" %u %llX\n", d->level, (unsigned long long)(d->word & SHOWN));
+    if (d->told < d->most) {
+        print_moment('L', at);
+        printf(" %u %llX\n", d->level, (unsigned long long)(d->word & SHOWN));
+        d->told++;
+    }
+    if (d->vcd.file != NULL)
+        write_lanes(&d->vcd, at.item, at.time, (d->word & SHOWN) << 2 | d->level);
 }
 
 /* ---- Item by item ---- */
@@ -332,7 +347,7 @@ static void take_item(drawing *d, moment now, uint8_t level, uint64_t word)
     d->level = level;
     d->word = word;
     if (now.item >= d->from && now.item < d->to && (is_other || now.item == d->from))
-        print_lanes(d, now);
+        tell_lanes(d, now);
 }
 
 /* ---- The record ---- */
@@ -367,7 +382,7 @@ static void repeat(drawing *d, uint64_t count)
     moment first = {d->from, NAN};
 
     if (d->from >= d->item && d->from - d->item < count && d->from < d->to)
-        print_lanes(d, first);
+        tell_lanes(d, first);
     d->item += count;
 }
 
@@ -418,6 +433,25 @@ static int take_bytes(void *room, size_t size, size_t count)
     return fread(room, size, count, stdin) == count;
 }
 
+static int take_number(uint64_t *number)
+{
+    return take_bytes(number, sizeof *number, 1);
+}
+
+/* The signals of the VCD, and the clock of its times. */
+static int take_signals(changes *c, uint32_t count)
+{
+    uint32_t i;
+
+    if (count > MOST_SIGNALS || !take_bytes(c->places, 1, count))
+        return 0;
+    for (i = 0; i < count; i++)
+        if (c->places[i] >= 64)
+            return 0;
+    c->signals = count;
+    return take_number(&c->first) && take_number(&c->step) && take_number(&c->parts) && c->step > 0 && c->parts > 0;
+}
+
 /* One part of the stream, by its letter. */
 static int take_part(drawing *d, int letter)
 {
@@ -425,9 +459,11 @@ static int take_part(drawing *d, int letter)
     int is_timed = letter == 't';
 
     if (letter == 'w')
-        return take_bytes(&d->from, sizeof d->from, 1) && take_bytes(&d->to, sizeof d->to, 1);
+        return take_number(&d->from) && take_number(&d->to) && take_number(&d->most);
     if (!take_bytes(&count, sizeof count, 1) || count > CHUNK)
         return 0;
+    if (letter == 'v')
+        return take_signals(&d->vcd, count);
     if (letter == 'k')
         return take_bytes(d->levels, 1, count) && take_bytes(d->counts, sizeof *d->counts, count) && draw_runs(d, count);
     if (is_timed && !take_bytes(d->times, sizeof *d->times, count))
@@ -461,14 +497,20 @@ static void finish(drawing *d)
     putchar('\n');
 }
 
+/* The whole stream; answers whether it was right, and everything could be written. */
 static int draw_stream(drawing *d)
 {
     int letter;
 
-    while ((letter = getchar()) != 'e')
+    while ((letter = getchar()) != 'e') {
         if (letter == EOF || !take_part(d, letter))
             return refuse("the stream is broken");
+        if (d->vcd.wrong != NULL)
+            return 0;
+    }
     finish(d);
+    if (d->vcd.file != NULL && !end_lanes(&d->vcd, d->to < d->item ? d->to : d->item))
+        return 0;
     return fflush(stdout) == 0;
 }
 
@@ -501,6 +543,7 @@ static int set_up(drawing *d, char **words)
 
     d->n = strtoul(words[1], NULL, 10);
     d->level = NO_WIRE;
+    d->vcd.step = d->vcd.parts = 1;
     for (i = 0; i < READINGS; i++)
         d->readings[i].wire = NO_WIRE;
     return wherryoar_setup(d->state, sizeof d->state, add, d->n).refusal == WHERRYOAR_DONE &&
@@ -513,9 +556,16 @@ int main(int argc, char **argv)
 {
     static drawing d;
 
-    if (argc != 6 || !set_up(&d, argv + 1)) {
-        fprintf(stderr, "usage: draw ADD N MSK CON2 MEMORY\n");
+    if (argc < 6 || argc > 7 || !set_up(&d, argv + 1)) {
+        fprintf(stderr, "usage: draw ADD N MSK CON2 MEMORY [FILE]\n");
         return 2;
     }
-    return draw_stream(&d) ? 0 : 1;
+    if (argc == 7 && (d.vcd.file = fopen(argv[6], "ab")) == NULL)
+        d.vcd.wrong = strerror(errno);
+    if (d.vcd.wrong == NULL && draw_stream(&d))
+        return 0;
+    if (d.vcd.wrong == NULL)
+        return 1;
+    fprintf(stderr, "%s\n", d.vcd.wrong);
+    return 3;
 }

@@ -1,6 +1,11 @@
 """The lanes of record and model as a VCD: a signal for each, by changes. Numbers are a wire for each of their bits, which every
 viewer takes (GTKWave joins them again; PulseView has no other signals)."""
+import struct
+from fractions import Fraction
+
 from records import PICOSECONDS
+
+MOST_PARTS = 2**31 - 1  # of a clock's step, as the program takes them
 
 # Bits of a program's word, as include/wherryoar.h has them.
 SDA_PULLED, SCL_PULLED, PHASE, BF, SSPIF, SSPOV = 1 << 2, 1 << 3, 4, 1 << 8, 1 << 16, 1 << 18
@@ -21,78 +26,43 @@ def signals():
     return rows + [("model", f"pointer [{bit}]", POINTER + bit + 2) for bit in range(7, -1, -1)]
 
 
-class Times:
-    """The time written for an item: in the units of the VCD that was read, else in nanoseconds."""
-
-    def __init__(self, reader):
-        self.reader = reader
-        self.is_vcd = hasattr(reader, "sampler")
-        clock = reader.clock
-        is_fine = clock is not None and clock.step < PICOSECONDS["ns"]
-        self.unit = "1 ps" if is_fine and not self.is_vcd else "1 ns"
-        self.offset = None  # of a file whose first time lies before 0
-        if self.is_vcd and reader.timescale:
-            self.unit = reader.timescale
-
-    def at(self, item, time):
-        if self.is_vcd:
-            return self.reader.first + item * self.reader.sampler.period
-        if time != b"-":
-            return self.by_column(float(time))
-        if self.reader.clock is None:
-            return item
-        picoseconds = self.reader.clock.at(item)
-        return picoseconds if self.unit == "1 ps" else (picoseconds + 500) // 1000
-
-    def by_column(self, seconds):
-        if self.offset is None:
-            self.offset = min(0.0, seconds)
-        return round((seconds - self.offset) * 1e9)
+def is_fine(clock):
+    """Whether items lie closer together than a nanosecond."""
+    return clock is not None and clock.step < PICOSECONDS["ns"]
 
 
 class LanesFile:
-    """The VCD, written as the lanes come."""
+    """The VCD: its header, written here, and what the program is told so that it adds the changes. Times are in the units of a VCD
+    that was read, else in nanoseconds, or in picoseconds where that is not enough."""
 
-    def __init__(self, file, reader, version):
-        self.file, self.times = file, Times(reader)
-        self.signals = signals()
-        self.codes = [chr(ord("A") + at) for at in range(len(self.signals))]
-        self.version = version
-        self.before = None
-        self.time = None
-        self.texts = {}  # the changes from one number to the next, as they are written
+    def __init__(self, output, reader, version):
+        self.output, self.reader = output, reader
+        self.is_vcd = hasattr(reader, "sampler")
+        self.unit = "1 ps" if not self.is_vcd and is_fine(reader.clock) else "1 ns"
+        if self.is_vcd and reader.timescale:
+            self.unit = reader.timescale
+        output.write(self.header(version).encode("ascii"))
 
-    def header(self):
-        lines = [f"$version wherryoar {self.version} $end", f"$comment {REMARK} $end", f"$timescale {self.times.unit} $end"]
+    def header(self, version):
+        lines = [f"$version wherryoar {version} $end", f"$comment {REMARK} $end", f"$timescale {self.unit} $end"]
         scope = None
-        for (where, name, _), code in zip(self.signals, self.codes):
+        for at, (where, name, _) in enumerate(signals()):
             if where != scope:
                 lines += ["$upscope $end"] * (scope is not None) + [f"$scope module {where} $end"]
             scope = where
-            lines.append(f"$var wire 1 {code} {name} $end")
+            lines.append(f"$var wire 1 {chr(ord('A') + at)} {name} $end")
         return "\n".join(lines + ["$upscope $end", "$enddefinitions $end"]) + "\n"
 
-    def changes(self, now):
-        """The signals that change from the number before to this one; all of them at first."""
-        return "".join(f" {now >> place & 1}{code}" for (_, _, place), code in zip(self.signals, self.codes)
-                       if self.before is None or (now ^ self.before) >> place & 1)
+    def clock(self):
+        """The time of the first item, and how far it is to the next; of items without times their numbers."""
+        if self.is_vcd:
+            return self.reader.first, Fraction(self.reader.sampler.period)
+        if self.reader.clock is None:
+            return 0, Fraction(1)
+        return 0, (self.reader.clock.step / PICOSECONDS[self.unit[2:]]).limit_denominator(MOST_PARTS)
 
-    def take(self, item, time, level, word):
-        """The lanes from an item on."""
-        now = word << 2 | level
-        if self.before is None:
-            self.file.write(self.header().encode("ascii"))
-        key = (self.before, now)
-        if key not in self.texts:
-            self.texts[key] = self.changes(now)
-        text, stamp = self.texts[key], self.times.at(item, time)
-        if text:
-            self.file.write((f"#{stamp}{text}\n" if stamp != self.time else f"{text[1:]}\n").encode("ascii"))
-            self.time = stamp
-        self.before = now
-
-    def finish(self, end):
-        """The time behind the last item ends the file."""
-        stamp = self.times.at(end, b"-") if self.times.offset is None else self.time + 1
-        if stamp != self.time:
-            self.file.write(f"#{stamp}\n".encode("ascii"))
+    def message(self):
+        """The part of the stream that tells of signals and clock; the first item has to be known."""
+        places = bytes(place for _, _, place in signals())
+        first, step = self.clock()
+        return struct.pack("<cI", b"v", len(places)) + places + struct.pack("<QQQ", first, step.numerator, step.denominator)

@@ -31,8 +31,10 @@ class Output:
         return self
 
     def write(self, data):
+        """Writes at once: another program may go on in the file."""
         try:
             self.file.write(data)
+            self.file.flush()
         except OSError as wrong:
             raise Bad(f"it cannot be written: {wrong.strerror}", self.told) from None
 

@@ -353,15 +353,11 @@ class Pictures:
         self.file = lanes.LanesFile(outputs["lanes"], reader, version) if "lanes" in outputs else None
         is_drawn = options.text or "svg" in outputs
         self.view = View(MOST_CHANGES if self.is_chosen else FIRST_CHANGES) if is_drawn else None
-        self.window = Window(options.begin, options.end) if self.file or is_drawn else None
+        most = self.view.most + 1 if is_drawn else 0  # one more tells that it is full
+        self.window = Window(options.begin, options.end, most) if self.file or is_drawn else None
 
     def take_lanes(self, fields):
-        item, time, level, word = int(fields[1]), fields[2], int(fields[3]), int(fields[4], 16)
-        if self.file:
-            self.file.take(item, time, level, word)
-        if self.view:
-            self.view.take(Change(item, time, level, word))
-            self.window.is_closed = self.view.is_full and self.file is None
+        self.view.take(Change(int(fields[1]), fields[2], int(fields[3]), int(fields[4], 16)))
 
     def take_row(self, row):
         begin, end = self.window.sent if self.window else (0, 0)
@@ -375,8 +371,6 @@ class Pictures:
         end = min(self.window.sent[1], items)
         if self.window.sent[0] >= end:
             raise Bad(f"no item of the record lies between --from and --to: it has {items}")
-        if self.file:
-            self.file.finish(end)
         if self.view:
             self.choose(items, end)
             self.draw()

@@ -67,9 +67,9 @@ def number_and_unit(text, units):
 
 
 def rate_of(text):
-    """A sample rate such as 1000000, 24MHz or 1 MHz; None where it is none."""
+    """A sample rate such as 1000000, 24MHz or 1 MHz; None where it is none, or not from once a second to once a picosecond."""
     rate = number_and_unit(text.lower(), HERTZ)
-    return rate if rate is not None and rate > 0 else None
+    return rate if rate is not None and 1 <= rate <= PICOSECONDS["s"] else None
 
 
 class Source:

@@ -10,6 +10,7 @@ import threading
 from records import Bad, CHUNK, Runs
 
 EVERYTHING = 2**64 - 1
+NOT_WRITTEN = 3  # the program's status where the lanes' file is what failed
 
 
 def program(here):
@@ -30,12 +31,12 @@ def program(here):
 
 
 class Window:
-    """The items whose lanes are told: from one up to another, each an item's number or a time in picoseconds."""
+    """The items whose lanes are told: from one up to another, each an item's number or a time in picoseconds; and by how many
+    lines at most."""
 
-    def __init__(self, begin=None, end=None):
-        self.begin, self.end = begin, end  # (number, is it a time), or None
+    def __init__(self, begin, end, most):
+        self.begin, self.end, self.most = begin, end, most  # (number, is it a time), or None
         self.items = None if self.is_timed() else (begin[0] if begin else 0, end[0] if end else EVERYTHING)
-        self.is_closed = False             # enough was seen
         self.sent = (0, 0)                 # its items, as far as they are known
 
     def is_timed(self):
@@ -64,9 +65,9 @@ class Window:
 class Feeder(threading.Thread):
     """Sends a record to the program; what was wrong with it is kept."""
 
-    def __init__(self, pipe, reader, window, progress):
+    def __init__(self, pipe, reader, pictures, progress):
         super().__init__(daemon=True)
-        self.pipe, self.reader, self.window, self.progress = pipe, reader, window, progress
+        self.pipe, self.reader, self.pictures, self.progress = pipe, reader, pictures, progress
         self.wrong = None
         self.items = 0
         self.sent = None  # the window that the program has
@@ -98,13 +99,11 @@ class Feeder(threading.Thread):
         self.pipe.write(b"e")
 
     def send_window(self, piece):
-        """The window, whenever it has become another."""
-        window, times = self.window, getattr(piece, "times", None)
+        """The window, whenever it has become another; before the first one, what the lanes' file is to have."""
+        window, times = self.pictures.window, getattr(piece, "times", None)
         if window is None or not piece.levels:
             return
-        if window.is_closed:
-            items = 0, 0
-        elif window.is_timed() and times is not None:
+        if window.is_timed() and times is not None:
             items = window.by_times(self.items, times)
         elif window.is_timed():
             if self.reader.clock is None:
@@ -112,11 +111,11 @@ class Feeder(threading.Thread):
             items = window.by_clock(self.reader.clock)
         else:
             items = window.items
-        if not window.is_closed:
-            window.sent = items
+        if self.sent is None and self.pictures.file:
+            self.pipe.write(self.pictures.file.message())
         if items != self.sent:
-            self.pipe.write(b"w" + struct.pack("<QQ", *items))
-            self.sent = items
+            self.pipe.write(b"w" + struct.pack("<QQQ", *items, window.most))
+            self.sent = window.sent = items
 
     def send_levels(self, piece):
         head = struct.pack("<cI", b"r" if piece.times is None else b"t", len(piece.levels))
@@ -137,13 +136,16 @@ def little_endian(numbers):
     return numbers.tobytes()
 
 
-def lines(words, reader, window, progress):
+def lines(words, reader, pictures, progress):
     """The lines of the program for a record, each as its fields. Bad where the record is, or the program fails."""
+    file = pictures.file
     try:
-        process = subprocess.Popen(words, stdin=subprocess.PIPE, stdout=subprocess.PIPE, stderr=subprocess.PIPE)
+        # What Python ignores stays ignored: a file that becomes too large is told by the program, not by its end.
+        process = subprocess.Popen(words + ([file.output.beside] if file else []), stdin=subprocess.PIPE, stdout=subprocess.PIPE,
+                                   stderr=subprocess.PIPE, restore_signals=False)
     except OSError as wrong:
         raise Bad(f"{words[0]} cannot be run: {wrong.strerror}; WHERRYOAR_PROGRAM names another") from None
-    feeder = Feeder(process.stdin, reader, window, progress)
+    feeder = Feeder(process.stdin, reader, pictures, progress)
     feeder.start()
     try:
         for line in process.stdout:
@@ -152,7 +154,9 @@ def lines(words, reader, window, progress):
         told = process.stderr.read().decode("utf-8", "replace").strip()
         if feeder.wrong is not None:
             raise feeder.wrong
-        if process.wait() != 0:
+        if process.wait() == NOT_WRITTEN and file:
+            raise Bad(f"it cannot be written: {told}", file.output.told)
+        if process.returncode != 0:
             raise Bad(f"the program {words[0]} failed: {told or process.returncode}")
     finally:
         process.kill()
