@@ -22,6 +22,7 @@
                                                     a byte, at its ninth rise; from its first rise to its ninth fall
        C ITEM TIME BEGIN END COUNT BITS CONFLICT    a byte cut off, at its last whole bit
        X ITEM TIME CONFLICT                         a conflict that is left to tell at the end, where it began
+       W FROM TO                                    the items whose lanes are told from here on
        L ITEM TIME LEVEL WORD                       the lanes from this item on
        E ITEMS PHASES SINGLES ENDED WHOLE ANSWERED..    the end: how often SCL stood, and for a single item; then for each of
                                                     the eight readings the messages that ended, were whole, and answered  */
@@ -438,6 +439,14 @@ static int take_number(uint64_t *number)
     return take_bytes(number, sizeof *number, 1);
 }
 
+static int take_window(drawing *d)
+{
+    if (!take_number(&d->from) || !take_number(&d->to) || !take_number(&d->most))
+        return 0;
+    printf("W %llu %llu\n", (unsigned long long)d->from, (unsigned long long)d->to);
+    return 1;
+}
+
 /* The signals of the VCD, and the clock of its times. */
 static int take_signals(changes *c, uint32_t count)
 {
@@ -459,7 +468,7 @@ static int take_part(drawing *d, int letter)
     int is_timed = letter == 't';
 
     if (letter == 'w')
-        return take_number(&d->from) && take_number(&d->to) && take_number(&d->most);
+        return take_window(d);
     if (!take_bytes(&count, sizeof count, 1) || count > CHUNK)
         return 0;
     if (letter == 'v')

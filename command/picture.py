@@ -57,8 +57,6 @@ class View:
             self.changes.append(change)
 
     def take_row(self, row):
-        if self.is_full:
-            return
         if row.kind in (b"S", b"P"):
             self.conditions[row.item] = row.kind.decode()
         elif row.kind in (b"B", b"C"):
@@ -95,10 +93,10 @@ class View:
         """A phase with the byte that it takes or sends."""
         if name not in ("address", "data", "sending"):
             return name
-        row = next((row for row in self.rows if row.begin < end and row.end > begin and row.kind == b"B"), None)
-        if row is None or name == "sending" and not row.model.startswith("sends "):
+        row = next((row for row in self.rows if row.begin() < end and row.end() > begin and row.kind == b"B"), None)
+        if row is None or name == "sending" and not row.said.model.startswith("sends "):
             return name
-        return f"{name} {row.model[6:] if name == 'sending' else row.byte}"
+        return f"{name} {row.said.model[6:] if name == 'sending' else row.said.byte}"
 
     def clock_phases(self):
         """How long SCL stood between two of its edges, in items, in order of length."""
@@ -266,9 +264,9 @@ class SvgLanes:
         """Each byte of the wire with its acknowledge: A or N."""
         self.name("bytes")
         for row in self.view.rows:
-            if row.end > self.view.begin and row.begin < self.view.end:
-                answer = {"ack": " A", "nack": " N"}.get(row.wire, " cut off")
-                self.box("bad" if row.differences else "byte", row.begin, row.end, row.byte + answer, row.byte)
+            if row.end() > self.view.begin and row.begin() < self.view.end:
+                said, answer = row.said, {"ack": " A", "nack": " N"}.get(row.said.wire, " cut off")
+                self.box("bad" if said.differences else "byte", row.begin(), row.end(), said.byte + answer, said.byte)
         self.row += 1
 
     def boxes(self, name, stretches, label):
@@ -356,12 +354,15 @@ class Pictures:
         most = self.view.most + 1 if is_drawn else 0  # one more tells that it is full
         self.window = Window(options.begin, options.end, most) if self.file or is_drawn else None
 
-    def take_lanes(self, fields):
-        self.view.take(Change(int(fields[1]), fields[2], int(fields[3]), int(fields[4], 16)))
+    def take_window(self, line):
+        self.window.sent = tuple(map(int, line.split()[1:]))
+
+    def take_lanes(self, line):
+        _, item, time, level, word = line.split()
+        self.view.take(Change(int(item), time, int(level), int(word, 16)))
 
     def take_row(self, row):
-        begin, end = self.window.sent if self.window else (0, 0)
-        if self.view and row.end >= begin and row.begin < end:
+        if self.view and not self.view.is_full and row.end() >= self.window.sent[0] and row.begin() < self.window.sent[1]:
             self.view.take_row(row)
 
     def finish(self, items):

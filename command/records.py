@@ -20,6 +20,9 @@ class Bad(Exception):
         super().__init__(words)
         self.of = of
 
+    def __reduce__(self):
+        return Bad, (str(self), self.of)
+
 
 class Levels:
     """Items one by one: a byte of 0 to 3 for each, and their times in seconds where the file has them."""

@@ -1,11 +1,12 @@
-"""Runs the C program beside the readers: a thread feeds it the record, its lines are read here."""
+"""Runs the C program beside the readers: a process of its own reads the record and feeds it, its lines are read here."""
 import bisect
 import os
+import pickle
 import shlex
+import signal
 import struct
 import subprocess
 import sys
-import threading
 
 from records import Bad, CHUNK, Runs
 
@@ -37,7 +38,7 @@ class Window:
     def __init__(self, begin, end, most):
         self.begin, self.end, self.most = begin, end, most  # (number, is it a time), or None
         self.items = None if self.is_timed() else (begin[0] if begin else 0, end[0] if end else EVERYTHING)
-        self.sent = (0, 0)                 # its items, as far as they are known
+        self.sent = (0, 0)                 # its items, as the program was told them last
 
     def is_timed(self):
         return any(edge is not None and edge[1] for edge in (self.begin, self.end))
@@ -62,38 +63,62 @@ class Window:
         return tuple(EVERYTHING if place is None else place for place in self.items)
 
 
-class Feeder(threading.Thread):
-    """Sends a record to the program; what was wrong with it is kept."""
+class Feeder:
+    """Sends a record to the program, in a process of its own so that reading and showing go side by side. The first piece is read
+    before it parts: with it the reader knows its clock."""
 
     def __init__(self, pipe, reader, pictures, progress):
-        super().__init__(daemon=True)
         self.pipe, self.reader, self.pictures, self.progress = pipe, reader, pictures, progress
-        self.wrong = None
         self.items = 0
         self.sent = None  # the window that the program has
+        pieces = reader.pieces()
+        first = next(pieces, None)
+        self.result, theirs = os.pipe()
+        before = signal.pthread_sigmask(signal.SIG_BLOCK, [signal.SIGINT])  # whoever is interrupted here ends both
+        self.process = os.fork()
+        if self.process == 0:
+            self.run(first, pieces, theirs)
+        signal.pthread_sigmask(signal.SIG_SETMASK, before)
+        os.close(theirs)
+        pipe.close()
 
-    def run(self):
+    def run(self, first, pieces, result):
+        """The process: feeds, tells what was wrong and ends without a word more."""
+        wrong = None
         try:
-            self.feed()
+            self.feed(first, pieces)
             self.pipe.close()
         except BrokenPipeError:
             pass  # the program has ended; its status tells why
-        except BaseException as wrong:  # told by the thread that waits for this one
-            self.wrong = wrong
-        finally:
-            try:
-                self.pipe.close()
-            except OSError:
-                pass
+        except BaseException as caught:
+            wrong = caught
+        os.write(result, pickle.dumps(wrong))
+        os._exit(0)
 
-    def feed(self):
-        for piece in self.reader.pieces():
+    def finish(self):
+        """Waits for the process; raises what was wrong."""
+        with os.fdopen(self.result, "rb") as result:
+            told = result.read()
+        os.waitpid(self.process, 0)
+        self.process = None
+        wrong = pickle.loads(told) if told else Bad("it could not be read to its end")
+        if wrong is not None:
+            raise wrong
+
+    def stop(self):
+        if self.process is not None:
+            os.kill(self.process, signal.SIGKILL)
+            os.waitpid(self.process, 0)
+
+    def feed(self, piece, pieces):
+        while piece is not None:
             self.send_window(piece)
             if isinstance(piece, Runs):
                 self.send_runs(piece)
             elif piece.levels:
                 self.send_levels(piece)
             self.progress()
+            piece = next(pieces, None)
         if self.items == 0:
             raise Bad("there is no item in it")
         self.pipe.write(b"e")
@@ -115,7 +140,7 @@ class Feeder(threading.Thread):
             self.pipe.write(self.pictures.file.message())
         if items != self.sent:
             self.pipe.write(b"w" + struct.pack("<QQQ", *items, window.most))
-            self.sent = window.sent = items
+            self.sent = items
 
     def send_levels(self, piece):
         head = struct.pack("<cI", b"r" if piece.times is None else b"t", len(piece.levels))
@@ -137,27 +162,26 @@ def little_endian(numbers):
 
 
 def lines(words, reader, pictures, progress):
-    """The lines of the program for a record, each as its fields. Bad where the record is, or the program fails."""
+    """The lines of the program for a record. Bad where the record is, or the program fails."""
     file = pictures.file
     try:
         # What Python ignores stays ignored: a file that becomes too large is told by the program, not by its end.
         process = subprocess.Popen(words + ([file.output.beside] if file else []), stdin=subprocess.PIPE, stdout=subprocess.PIPE,
-                                   stderr=subprocess.PIPE, restore_signals=False)
+                                   stderr=subprocess.PIPE, restore_signals=False, bufsize=1 << 20)
     except OSError as wrong:
         raise Bad(f"{words[0]} cannot be run: {wrong.strerror}; WHERRYOAR_PROGRAM names another") from None
-    feeder = Feeder(process.stdin, reader, pictures, progress)
-    feeder.start()
+    feeder = None
     try:
-        for line in process.stdout:
-            yield line.split()
-        feeder.join()
+        feeder = Feeder(process.stdin, reader, pictures, progress)
+        yield from process.stdout
+        feeder.finish()
         told = process.stderr.read().decode("utf-8", "replace").strip()
-        if feeder.wrong is not None:
-            raise feeder.wrong
         if process.wait() == NOT_WRITTEN and file:
             raise Bad(f"it cannot be written: {told}", file.output.told)
         if process.returncode != 0:
             raise Bad(f"the program {words[0]} failed: {told or process.returncode}")
     finally:
+        if feeder:
+            feeder.stop()
         process.kill()
         process.wait()

@@ -1,7 +1,9 @@
 """The table: a line for each Start, Stop and byte of a record, what the wire shows beside what the model would do."""
 
-HEADER = ("item", "time", "event", "byte", "wire", "model", "pointer", "stored")
-FORM = "{:>10}  {:>14}  {:<12}  {:<8}  {:<4}  {:<9}  {:<7}  {:<8}"
+PLACE = "{:>10}  {:>14}  "
+SAID = "{:<12}  {:<8}  {:<4}  {:<9}  {:<7}  {:<8}"
+HEADER = (PLACE + SAID).format("item", "time", "event", "byte", "wire", "model", "pointer", "stored").rstrip()
+MOST_KNOWN = 100_000
 PULLS = "the model pulls SDA where the wire is high"
 MODEL = {b"-": "-", b"a": "ack", b"n": "nack", b"u": "sends ?", b"o": "elsewhere"}
 
@@ -30,38 +32,34 @@ def picoseconds_at(clock, item, time):
     return None if clock is None else clock.at(item)
 
 
-class Row:
-    """A line of the table; its fields are those of the program's line."""
+class Said:
+    """What a line of the program says behind its place, and the text for it: the same for many lines, and made once for them."""
 
-    def __init__(self, fields):
-        self.kind = fields[0]
-        self.item, self.time = int(fields[1]), fields[2]
-        self.begin = self.end = self.item
+    def __init__(self, kind, fields):
         self.event, self.byte, self.wire, self.model, self.pointer, self.stored = "", "", "", "", "", ""
-        self.is_first = self.is_hit = self.is_unknown = False
+        self.is_hit = self.is_unknown = False
         self.differences = []
-        {b"B": self.take_byte, b"C": self.take_cut_off}.get(self.kind, self.take_event)(fields)
+        {b"B": self.take_byte, b"C": self.take_cut_off}.get(kind, self.take_event)(kind, *fields)
+        self.text = SAID.format(self.event, self.byte, self.wire, self.model, self.pointer, self.stored)
+        self.text = self.text + "  < " + ", ".join(self.differences) if self.differences else self.text.rstrip()
 
-    def take_event(self, fields):
-        self.event = {b"S": "Start", b"P": "Stop", b"X": "end"}[self.kind]
-        self.clash(fields[3])
+    def take_event(self, kind, conflict):
+        self.event = {b"S": "Start", b"P": "Stop", b"X": "end"}[kind]
+        self.clash(conflict)
 
-    def take_cut_off(self, fields):
-        self.begin, self.end = int(fields[3]), int(fields[4])
+    def take_cut_off(self, _, count, bits, conflict):
         self.event = "cut off"
-        self.byte = f"{int(fields[6], 16):0{int(fields[5])}b}"
+        self.byte = f"{int(bits, 16):0{int(count)}b}"
         self.wire = self.model = "-"
-        self.clash(fields[7])
+        self.clash(conflict)
 
     def clash(self, conflict):
         if conflict == b"1" and not self.differences:
             self.differences.append(PULLS)
 
-    def take_byte(self, fields):
-        _, _, _, begin, end, hit, byte, answer, model, sent, conflict, pointer, place, stored = fields
-        self.begin, self.end = int(begin), int(end)
+    def take_byte(self, _, hit, byte, answer, model, sent, conflict, pointer, place, stored):
         self.byte, self.wire = byte.decode(), "ack" if answer == b"0" else "nack"
-        self.is_first, self.is_hit = hit != b"-", hit in (b"1", b"2")
+        self.is_hit = hit in (b"1", b"2")
         self.event = event_of(hit, int(byte, 16))
         self.is_unknown = model == b"u"
         self.model = "sends " + sent.decode() if model == b"s" else MODEL[model]
@@ -80,14 +78,33 @@ class Row:
         elif model == b"o":
             self.differences.append("the model is at another place of a message")
 
+
+class Row:
+    """A line of the table, by the program's line."""
+
+    known = {}  # what lines say, by what stands behind their place
+
+    def __init__(self, line):
+        self.kind, item, self.time, *self.span, said = line.split(b" ", 5)
+        self.item = int(item)
+        self.said = self.known.get((self.kind, said)) or self.learn(said)
+
+    def learn(self, said):
+        if len(self.known) >= MOST_KNOWN:
+            self.known.clear()
+        self.known[self.kind, said] = known = Said(self.kind, said.split())
+        return known
+
+    def begin(self):
+        return int(self.span[0]) if self.span else self.item
+
+    def end(self):
+        return int(self.span[1]) if self.span else self.item
+
     def line(self, clock):
         """The row as text."""
         picoseconds = picoseconds_at(clock, self.item, self.time)
-        time = "-" if picoseconds is None else engineering(picoseconds)
-        text = FORM.format(self.item, time, self.event, self.byte, self.wire, self.model, self.pointer, self.stored)
-        if self.differences:
-            return text + "  < " + ", ".join(self.differences)
-        return text.rstrip()
+        return PLACE.format(self.item, "-" if picoseconds is None else engineering(picoseconds)) + self.said.text
 
 
 def event_of(hit, byte):
@@ -108,9 +125,9 @@ class Counts:
     def take(self, row):
         self.messages += row.kind == b"S"
         self.bytes += row.kind == b"B"
-        self.own += row.is_hit
-        self.unknown += row.is_unknown
-        if row.differences:
+        self.own += row.said.is_hit
+        self.unknown += row.said.is_unknown
+        if row.said.differences:
             self.differing += 1
             self.first = row.item if self.first is None else self.first
 
