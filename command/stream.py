@@ -84,16 +84,21 @@ class Feeder:
 
     def run(self, first, pieces, result):
         """The process: feeds, tells what was wrong and ends without a word more."""
-        wrong = None
+        try:
+            os.write(result, pickle.dumps(self.fed(first, pieces)))
+        finally:
+            os._exit(0)
+
+    def fed(self, first, pieces):
+        """Feeds; answers what was wrong, None where nothing was."""
         try:
             self.feed(first, pieces)
             self.pipe.close()
         except BrokenPipeError:
             pass  # the program has ended; its status tells why
-        except BaseException as caught:
-            wrong = caught
-        os.write(result, pickle.dumps(wrong))
-        os._exit(0)
+        except BaseException as wrong:
+            return wrong
+        return None
 
     def finish(self):
         """Waits for the process; raises what was wrong."""

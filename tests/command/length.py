@@ -14,22 +14,22 @@ import zipfile
 
 from common import SCRIPT, csv_text, expect, finish, get, put, record, vcd_text
 
-BLOCK = record("i S 42+ 05+ 1C+ 2D+ P i S 42+ 05+ S 43+ 1C+ 2D- P i S A0+ 00+ P i", 10, 10)
+WORDS = "i S 42+ 05+ 1C+ 2D+ P i S 42+ 05+ S 43+ 1C+ 2D- P i S A0+ 00+ P i"
+BLOCK, DENSE = record(WORDS, 10, 10), record(WORDS, 1, 1)  # 20 samples for a clock, and as few as there may be
 MESSAGES, BYTES, OWN = 4, 11, 3
 MOST_MEMORY = 200  # megabytes
 MODEL = ["--add", "42"]
 
 
-def vcd_changes(block):
+def vcd_changes(levels, block):
     """The changes of a block, moved on in time."""
-    first = block * len(BLOCK)
-    return "".join(f'#{first + item}\n{level >> 1}!\n{level & 1}"\n' for item, level in enumerate(BLOCK)
-                   if item == 0 or level != BLOCK[item - 1])
+    first = block * len(levels)
+    return "".join(f'#{first + item}\n{level >> 1}!\n{level & 1}"\n' for item, level in enumerate(levels)
+                   if item == 0 or level != levels[item - 1]).encode("ascii")
 
 
-def timed_rows(block):
-    first = block * len(BLOCK)
-    return csv_text(BLOCK, None, "{time},{scl},{sda}", first=first / 1e6)
+def timed_rows(levels, block):
+    return csv_text(levels, None, "{time},{scl},{sda}", first=block * len(levels) / 1e6).encode("ascii")
 
 
 def written(out, name, head, part, count, end=""):
@@ -52,23 +52,30 @@ def written_sr(out, blocks):
     return path
 
 
+def written_vcd(out, name, levels, blocks):
+    head = vcd_text(levels).split("#0\n", 1)[0]
+    return written(out, name, head, lambda block: vcd_changes(levels, block), blocks, f"#{blocks * len(levels)}\n")
+
+
 def files(out, samples):
-    """One record of so many samples in each form; CSV with times too, at a tenth of the length."""
-    blocks = -(-samples // len(BLOCK))
-    few = -(-blocks // 10)
+    """One record of so many samples in each form, with the lanes of the first one; CSV with times too, at a tenth of the length,
+    and the densest record with its lanes, at a quarter, in the two forms that take longest."""
+    blocks, few, dense = (-(-samples // length) for length in (len(BLOCK), 10 * len(BLOCK), 4 * len(DENSE)))
     rows = csv_text(BLOCK, None).encode("ascii")
-    head = vcd_text(BLOCK).split("#0\n", 1)[0]
-    return [(written(out, "long.bin", b"", lambda block: BLOCK, blocks), ["--as", "binary"], blocks),
-            (written_sr(out, blocks), [], blocks),
-            (written(out, "long.csv", "SCL,SDA\n", lambda block: rows, blocks), [], blocks),
-            (written(out, "long.vcd", head, lambda block: vcd_changes(block).encode("ascii"), blocks,
-                     f"#{blocks * len(BLOCK)}\n"), [], blocks),
-            (written(out, "timed.csv", "Time,SCL,SDA\n", lambda block: timed_rows(block).encode("ascii"), few), [], few)]
+    lanes = ["--lanes", os.path.join(out, "lanes.vcd")]
+    binary = written(out, "long.bin", b"", lambda block: BLOCK, blocks)
+    return [(binary, ["--as", "binary"], BLOCK, blocks), (binary, ["--as", "binary", *lanes], BLOCK, blocks),
+            (written_sr(out, blocks), [], BLOCK, blocks),
+            (written(out, "long.csv", "SCL,SDA\n", lambda block: rows, blocks), [], BLOCK, blocks),
+            (written_vcd(out, "long.vcd", BLOCK, blocks), [], BLOCK, blocks),
+            (written(out, "timed.csv", "Time,SCL,SDA\n", lambda block: timed_rows(BLOCK, block), few), [], BLOCK, few),
+            (written_vcd(out, "dense.vcd", DENSE, dense), lanes, DENSE, dense),
+            (written(out, "dense.csv", "Time,SCL,SDA\n", lambda block: timed_rows(DENSE, block), dense), lanes, DENSE, dense)]
 
 
 def limits(cases, seconds):
     """Each form gives the right counts, in time and memory."""
-    for path, options, blocks in cases:
+    for path, options, levels, blocks in cases:
         begin = time.monotonic()
         done = subprocess.run([sys.executable, SCRIPT, "show", path, *MODEL, *options], stdout=subprocess.PIPE,
                               stderr=subprocess.PIPE, check=False)
@@ -79,7 +86,8 @@ def limits(cases, seconds):
         expect(done.returncode == 0 and last == wanted, f"{path}: {done.returncode} {last} {done.stderr.decode()}")
         expect(seconds == 0 or taken < seconds, f"{path}: {taken:.1f} s")
         expect(memory < MOST_MEMORY, f"{path}: {memory} megabytes")
-        print(f"{os.path.basename(path)}: {blocks * len(BLOCK)} samples, {taken:.1f} s, {memory} megabytes")
+        print(f"{os.path.basename(path)}{' with lanes' * ('--lanes' in options)}: {blocks * len(levels)} samples, {taken:.1f} s,"
+              f" {memory} megabytes")
 
 
 def long_time(out):
@@ -137,8 +145,8 @@ def main(arguments):
     cases = files(out, samples)
     limits(cases, seconds)
     long_time(out)
-    bar(cases[3][0])
-    interrupted(out, cases[2][0])
+    bar(cases[4][0])
+    interrupted(out, cases[3][0])
     return finish()
 
 

@@ -5,6 +5,7 @@
 """
 import itertools
 import os
+import random
 import re
 import struct
 import subprocess
@@ -19,10 +20,10 @@ MODEL = ["--add", "30", "--n", "32"]
 
 # ---- The lanes, told by the C program itself ----
 
-def lines_of(stream, add):
+def lines_of(stream, add, *file):
     """What the program prints for a stream, with the lanes of every item."""
-    line = [*COMMAND.stream.program(COMMAND.HERE), add, "32", "FF", "01", "-"]
-    stream = b"w" + struct.pack("<QQ", 0, 2**64 - 1) + stream + b"e"
+    line = [*COMMAND.stream.program(COMMAND.HERE), add, "32", "FF", "01", "-", *file]
+    stream = b"w" + struct.pack("<QQQ", 0, 2**64 - 1, 2**64 - 1) + stream + b"e"
     return subprocess.run(line, input=stream, stdout=subprocess.PIPE, check=True).stdout.decode().splitlines()
 
 
@@ -74,7 +75,8 @@ def lanes_times(out):
     cases = [("a.vcd", vcd_text(levels, timescale="10 us", first=30, step=7), ["--period", "7"], "10 us", 7, 30),
              ("b.txt", digits(levels), [], "1 ns", 1, 0), ("c.txt", digits(levels), ["--rate", "1MHz"], "1 ns", 1000, 0),
              ("d.csv", csv_text(levels, "Time,SCL,SDA", "{time},{scl},{sda}", first=-0.5), [], "1 ns", 1000, 0),
-             ("e.txt", digits(levels), ["--rate", "4GHz"], "1 ps", 250, 0)]
+             ("e.txt", digits(levels), ["--rate", "4GHz"], "1 ps", 250, 0),
+             ("f.txt", digits(levels), ["--rate", "1000GHz"], "1 ps", 1, 0), ("g.txt", digits(levels), ["--rate", "1"], "1 ns", 10**9, 0)]
     for name, data, options, unit, step, first in cases:
         done = show(put(out, name, data), "--add", "42", *options, "--lanes", target)
         text = get(target).decode()
@@ -87,6 +89,25 @@ def lanes_times(out):
     show(put(out, "b.txt", digits(levels)), "--add", "42", "--lanes", target, "--from", "40", "--to", "60")
     times = [int(time) for time in re.findall(r"(?m)^#(\d+)", get(target).decode())]
     expect(times[0] == 40 and times[-1] == 60 and all(40 <= time <= 60 for time in times), f"a window: {times}")
+
+
+def lanes_clock(out):
+    """Times by a clock are the nearest whole ones, however large: so many items from one change to the next, at random."""
+    chance = random.Random(5)
+    for _ in range(40):
+        parts = chance.randrange(1, 2**chance.randrange(1, 31))
+        step = chance.randrange(1, 2**chance.randrange(2, 60))
+        first = chance.randrange(2**chance.randrange(1, 60))
+        most = min(2**63, (2**64 - first) * parts // step // 70)  # so that the last time fits
+        counts = [chance.randrange(1, 2**chance.randrange(2, 64) + 2) % most + 1 for _ in range(60)]
+        path = put(out, "clock.vcd", "")
+        stream = b"v" + struct.pack("<IBQQQ", 1, 1, first, step, parts)
+        stream += b"k" + struct.pack("<I", 60) + b"\3\1" * 30 + b"".join(struct.pack("<Q", count) for count in counts)
+        lines_of(stream, "42", path)
+        items = [sum(counts[:at]) for at in range(61)]
+        wanted = [first + (2 * item * step + parts) // (2 * parts) for item in items]
+        found = [int(time) for time in re.findall(rb"#(\d+)", get(path))]
+        expect(found == sorted(set(wanted)), f"first {first} step {step}/{parts}: {counts}")
 
 
 def lanes_of_runs(out):
@@ -195,6 +216,7 @@ def main(arguments):
     out, wires = arguments
     lanes_back(out, wires)
     lanes_times(out)
+    lanes_clock(out)
     lanes_of_runs(out)
     stored_pictures(out, wires)
     contents(out)

@@ -102,10 +102,9 @@ def flips(out):
 def lines_alone():
     """What no record brings the model to, since its handler is never late: a byte that it does not acknowledge."""
     for answer, model, marks in (("0", "n", 1), ("1", "n", 0), ("1", "a", 1), ("0", "a", 0), ("0", "-", 0), ("1", "o", 1)):
-        fields = f"B 36 - 4 38 1 42 {answer} {model} 00 0 00 - -".encode().split()
-        row = COMMAND.table.Row(fields)
-        expect(len(row.differences) == marks, f"{answer} {model}: {row.differences}")
-    refused = COMMAND.table.Row(b"B 36 - 4 38 1 42 0 n 00 0 00 - -".split()).line(None)
+        row = COMMAND.table.Row(f"B 36 - 4 38 1 42 {answer} {model} 00 0 00 - -\n".encode())
+        expect(len(row.said.differences) == marks, f"{answer} {model}: {row.said.differences}")
+    refused = COMMAND.table.Row(b"B 36 - 4 38 1 42 0 n 00 0 00 - -\n").line(None)
     expect(refused.endswith("ack   nack       00                 < the wire acknowledges, the model does not"), refused)
 
 

@@ -7,7 +7,10 @@ import argparse
 import io
 import os
 import random
+import resource
 import shutil
+import signal
+import struct
 import subprocess
 import sys
 
@@ -249,6 +252,52 @@ def programs(out):
     expect(os.access(SCRIPT, os.X_OK), "the script can be run")
 
 
+def too_large(out):
+    """A lanes file that becomes too large, in its header or later, or has times that are, is refused with its name."""
+    folder = os.path.join(out, "too_large")
+    os.makedirs(folder)
+    path, target = put(folder, "long.txt", digits(LEVELS * 50)), os.path.join(folder, "out.vcd")
+    for most in (100, 20000):
+        done = run_apart("show", path, "--add", "42", "--lanes", target,
+                         preexec_fn=lambda most=most: resource.setrlimit(resource.RLIMIT_FSIZE, (most, most)))
+        expect(done.status == 2 and done.err == f"wherryoar: {target}: it cannot be written: File too large\n", f"{most}: {done.err}")
+    far = put(folder, "far.csv", "Time,SCL,SDA\n0,1,1\n1,1,0\n9.3e9,0,0\n")
+    done = show(far, "--add", "42", "--lanes", target)
+    expect(done.status == 2 and done.err.endswith("out.vcd: it cannot be written: its times do not fit into the 64 bits of a VCD's\n"),
+           f"times: {done.err}")
+    expect(sorted(os.listdir(folder)) == ["far.csv", "long.txt"], f"left behind: {os.listdir(folder)}")
+    expect(show(far, "--add", "42").status == 0, "without lanes its times are no harm")
+
+
+def killed(out):
+    """A reading process that is killed is told, and so is what else may happen to it."""
+    path, feed = put(out, "fine.txt", digits(LEVELS)), COMMAND.stream.Feeder.feed
+    for end, wanted in ((lambda *_: os.kill(os.getpid(), signal.SIGKILL), "fine.txt: it could not be read to its end"),
+                        (lambda *_: os._exit(1), "fine.txt: it could not be read to its end"),
+                        (lambda *_: open("/is/not/there"), "/is/not/there: No such file or directory")):
+        COMMAND.stream.Feeder.feed = end
+        done = show(path, "--add", "42")
+        expect(done.status == 2 and done.err.endswith(wanted + "\n") and done.err.count("\n") == 1, f"{wanted}: {done.err}")
+    COMMAND.stream.Feeder.feed = feed
+
+
+def signals(out):
+    """What the C program is told of a lanes file is refused where it is none; a time that does not fit is, too."""
+    path = put(out, "signals.vcd", "")
+    words = [*COMMAND.stream.program(COMMAND.HERE), "42", "4", "FF", "01", "-", path]
+    item, window = b"r\1\0\0\0\3", b"w" + struct.pack("<QQQ", 0, 2**64 - 1, 0)
+
+    def told(count, place, first, step, parts):
+        return b"v" + struct.pack("<I", count) + bytes([place]) * count + struct.pack("<QQQ", first, step, parts)
+
+    for stream, status in ((told(1, 0, 0, 1, 1), 0), (told(58, 63, 0, 1, 1), 0), (told(59, 0, 0, 1, 1), 1), (told(1, 64, 0, 1, 1), 1),
+                           (told(1, 0, 0, 0, 1), 1), (told(1, 0, 0, 1, 0), 1), (told(1, 0, 2**64 - 1, 1, 1), 3), (b"", 0)):
+        done = subprocess.run(words, input=stream + window + item + b"e", stdout=subprocess.PIPE, stderr=subprocess.PIPE, check=False)
+        expect(done.returncode == status, f"{stream}: {done.returncode} {done.stderr}")
+    done = subprocess.run([*words[:-1], os.path.join(out, "is_not_there", "a.vcd")], input=b"e", stderr=subprocess.PIPE, check=False)
+    expect(done.returncode == 3 and done.stderr == b"No such file or directory\n", f"{done.returncode} {done.stderr}")
+
+
 def streams():
     """The C program by itself refuses a stream that is none, and arguments that are none."""
     words = [*COMMAND.stream.program(COMMAND.HERE), "42", "4", "FF", "01", "-"]
@@ -295,7 +344,8 @@ def main(arguments):
         print(__doc__, file=sys.stderr)
         return 2
     out = arguments[0]
-    for test in (strangers, wrong_digits, wrong_vcds, wrong_zips, wrong_tables, options, channels, pictures, programs):
+    for test in (strangers, wrong_digits, wrong_vcds, wrong_zips, wrong_tables, options, channels, pictures, too_large, programs,
+                 killed, signals):
         test(out)
     streams()
     at_random(3000)
