@@ -3,9 +3,9 @@
 use Prim.Native.Nat.{ℕ, _+_, _/_, _%_, _^_, _<_, _≤_}
 use mathlib.Core.Logic.{_⊎_, _↔_}
 use mathlib.Core.Path.{_≡_}
-use mathlib.Core.Bool.{Bool, true, false, cond}
+use mathlib.Core.Bool.{Bool, true, false, cond, _&&_, not}
 use mathlib.Core.List.{List, [], _∷_, _++_, map}
-use lib.Dec.{T, ltb}
+use lib.Dec.{T, eqb, ltb}
 use lib.ListN.{length, take, getD}
 use Rattle.items.specs.First.{firstAbove, FirstAbove, NoneAbove}
 use Rattle.refusals.specs.declared.Refusal.{Refusal}
@@ -13,10 +13,14 @@ use Rattle.refusals.specs.declared.Refusal.the-variants.{NoState, NoRegister, R
 use Rattle.refusals.specs.declared.Verdict.{Verdict}
 use Rattle.refusals.specs.declared.Verdict.the-variants.{Done, Refused}
 use Rattle.refusals.specs.Numbers.{numberOf}
+use Rattle.wire.specs.declared.Edge.{Edge}
+use Rattle.wire.specs.declared.Edge.the-variants.{Still}
 use Rattle.wire.specs.Byte.{bit}
+use Rattle.wire.specs.Wire.{sclOf, sdaOf, onWire, edgeOf}
 use Rattle.mssp.specs.declared.Module.{Module}
 use Rattle.address.specs.declared.Hit.the-variants.{None, Own, GeneralCall}
 use Rattle.address.specs.Comparison.{hitNumber}
+use Rattle.register_bytes.specs.Bytes.{byteOf}
 use Rattle.registers.specs.Values.{readOf}
 use Rattle.writes.specs.Writes.{writeOf}
 use Rattle.firmware.specs.declared.State.{State}
@@ -28,7 +32,9 @@ use Rattle.steps.specs.declared.Item.{Item}
 use Rattle.steps.specs.declared.Item.the-variants.{Call, Read, Write}
 use Rattle.steps.specs.Step.{Stepped, stepOf, afterAll}
 use Rattle.trace.specs.Run.{firstBad, itemIf, itemAt}
+use Rattle.words.specs.Words.{eventsOf, linesFrom, standingBy, wordBy}
 use Rattle.lanes.specs.Lanes.{driven, shorterOf}
+use Rattle.phase_image.specs.PhasePart.{wireFrom, lineFrom}
 use Rattle.image.specs.Image.{imageLength, validState, encodeOf}
 use Rattle.view.specs.declared.View.{View}
 use Rattle.settling.specs.declared.Answer.{Answer}
@@ -318,6 +324,40 @@ pub data Feeds (start n : ℕ) : List DoorCall → List ℕ → Type 0 where
 -- Look shows no refused hold or slot, and SSPOV, bit 6 of CON1, is 0.
 abbrev pub ShowsNoneRefused : Host → Type 0
 ShowsNoneRefused h = (doorLook (h .state) .refused ≡ 0) × (bit 6 (shownCON1 h) ≡ false)
+
+-- ---- an item of a record, by looks: before it, after the handler's call if there is one, and after the item
+-- The handler is called: the clock is held, and the record shows SCL high.
+abbrev pub calledSeen : View → ℕ → Bool
+calledSeen before level = eqb (before .«scl_pulled») 1 && sclOf level
+
+-- What the item meets.
+abbrev pub metBy : Host → ℕ → ℕ → ℕ → Host
+metBy h start n level = cond (calledSeen (doorLook (h .state)) level) (atDoor h (callHandler start n) .left) h
+
+-- A call stores: SSPIF is 1 and CKP 0, R/W is 0 and D/A 1, and no pointer is due.
+abbrev pub storesSeen : View → Bool
+storesSeen before =
+    eqb (before .flag) 1 && not (bit 4 (before .con1)) && not (bit 2 (before .stat)) && bit 5 (before .stat) && not (eqb (before .due) 1)
+
+-- The edge, with SSPEN 1, from the wire as it was last seen to what record and pulls make of it.
+abbrev pub edgeSeen : View → ℕ → Edge
+edgeSeen met level =
+    cond (bit 5 (met .con1))
+    (edgeOf (lineFrom (met .wire) (met .mark)) (onWire (eqb (met .«scl_pulled») 1) (sclOf level)) (onWire (eqb (met .«sda_pulled») 1) (sdaOf level)))
+    Still
+
+-- What stands: SCL pulled, phase, STAT, ACKTIM, ACKSTAT, WCOL, SSPOV, CKP and SSPIF, pointer, BUF.
+abbrev pub standingSeen : View → ℕ
+standingSeen after =
+    standingBy (after .«scl_pulled») (after .phase) (after .stat)
+    (byteOf false false (bit 7 (after .con3)) (bit 6 (after .con2)) (bit 7 (after .con1)) (bit 6 (after .con1)) (bit 4 (after .con1)) (eqb (after .flag) 1))
+    (after .pointer) (after .buf)
+
+abbrev pub wordSeen : View → View → View → ℕ → ℕ
+wordSeen before met after level =
+    let called : Bool = calledSeen before level in
+    wordBy (standingSeen after) (linesFrom (wireFrom (after .wire)) (eqb (after .«sda_pulled») 1))
+    (eventsOf called (called && storesSeen before) (edgeSeen met level) (eqb (met .«sda_pulled») 1 && eqb level 3))
 
 -- ---- a firmware: register accesses and nothing else
 -- What a register shows; what a read and a write of it leave.

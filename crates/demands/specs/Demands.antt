@@ -26,7 +26,7 @@ use Rattle.settling.specs.Outcome.{done}
 use Rattle.module_calls.specs.Calls.{doorLook, doorHit}
 use Rattle.door.specs.declared.Part.{Part}
 use Rattle.door.specs.Door.{doorFind, Drawn, doorDraw}
-use Rattle.demands.specs.Calls.{DoorCall, setUp, readRegister, writeRegister, feedSample, callHandler, runTrace, drawLanes, drawnLevels, Host, answers, leftAfter, Allows, atDoor, byDefinition, ImageOf, shownCON1, HasTenBits, causes, lookCauses, findCauses, Exactly, OnlyBeside, Beside, StaysEnabled, Fits, TakenAsSaid, CanEndTheHold, FollowsAsShown, Matches, EndsAs, AllItems, Feeds, ShowsNoneRefused, firmware}
+use Rattle.demands.specs.Calls.{DoorCall, setUp, readRegister, writeRegister, feedSample, callHandler, runTrace, drawLanes, drawnLevels, Host, answers, leftAfter, Allows, atDoor, byDefinition, ImageOf, shownCON1, HasTenBits, causes, lookCauses, findCauses, Exactly, OnlyBeside, Beside, StaysEnabled, Fits, TakenAsSaid, CanEndTheHold, FollowsAsShown, Matches, EndsAs, AllItems, Feeds, ShowsNoneRefused, metBy, wordSeen, firmware}
 
 -- ---- DEMAND 1: every call has one outcome, changes only what it may, and refuses by number, exactly for the causes of the table
 -- Only one answer fits a call's contract, with one state and one buffer. (What look, hit and find answer is an equation as it
@@ -148,6 +148,14 @@ DrawnInParts =
     whole .taken .refusal ≡ 0
     → (first .taken .refusal ≡ 0) × (second .taken .refusal ≡ 0) × (second .state ≡ whole .state) × (second .buffer ≡ whole .buffer)
     × (whole .lanes ≡ first .lanes ++ second .lanes)
+
+-- A word shows what looks show: of one level drawn, and so by the parts above of every one, the word is what the look after it shows
+-- (`standingSeen` and the lines), with what happened by the look before it and the one that the item meets.
+abbrev pub WordIsLooks : Type 0
+WordIsLooks =
+    (h : Host) (start n level lane : ℕ) → let d : Drawn = doorDraw (h .state) (h .buffer) start n (level ∷ []) (lane ∷ []) in
+    d .taken .refusal ≡ 0
+    → d .lanes ≡ wordSeen (doorLook (h .state)) (doorLook (metBy h start n level .state)) (doorLook (d .state)) level ∷ []
 
 -- ---- while SSPEN stays 1, no list of calls changes SSPM, the low four bits of CON1: another mode comes only by disabling or by
 -- a setup

@@ -2,8 +2,8 @@
 use Prim.Native.Nat.{ℕ, _+_}
 use mathlib.Core.Logic.{⊎-elim}
 use mathlib.Core.Path.{_≡_, refl, sym, ap, ap₂, subst, _∙_}
-use mathlib.Core.Bool.{Bool, true, false, cond}
-use mathlib.Core.List.{List, _++_, map, append-nil}
+use mathlib.Core.Bool.{Bool, true, false, cond, _&&_}
+use mathlib.Core.List.{List, [], _∷_, _++_, map, append-nil}
 use native.Mathlib.Omega.{arith}
 use lib.Dec.{T, eqb, ltb}
 use lib.ListN.{length, take, drop, length-append, drop-of-length-le}
@@ -11,23 +11,34 @@ use lib.Seq.{take-length, length-take-le}
 use borrow.Author.Tests.{ltb-false}
 use Rattle.items.specs.First.{firstAbove, NoneAbove}
 use Rattle.items.specs.Theorems.{none-above}
+use Rattle.wire.specs.Laws.{bool-back}
+use Rattle.mssp.specs.Phases.{isHeldForAdd}
+use Rattle.mssp.specs.Drivers.{sclPulled, sdaPulled}
+use Rattle.register_bytes.specs.Bits.{bits-back}
 use Rattle.firmware.specs.declared.State.{State}
 use Rattle.firmware.specs.Handler.{Served, served}
 use Rattle.firmware.specs.Window.{windowOf}
+use Rattle.steps.specs.declared.Item.the-variants.{Call}
+use Rattle.steps.specs.Step.{afterAll}
 use Rattle.trace.specs.Run.{itemAt, firstBad}
 use Rattle.trace.specs.Window.{checked}
+use Rattle.words.specs.Words.{isCalled, storing, metIf, met, itemTaken, edgeAt, inConflict, eventsOf, linesOf, standingOf, wordBy}
 use Rattle.lanes.specs.Lanes.{allTaken, allWords, driven, shorterOf, drawnIf, lanedIn, drawInOf}
 use Rattle.lanes.specs.Laws.{words-length, shorter-within}
 use Rattle.lanes.specs.Theorems.{words-joined, driven-joined, taken-is-run, driven-items}
+use Rattle.phase_image.specs.Laws.{wire-back}
+use Rattle.view.specs.declared.View.{View}
+use Rattle.view.specs.View.{viewOf}
 use Rattle.image.specs.Image.{validState, decodeOf, encodeOf}
 use Rattle.image.specs.Theorems.{decode-exactly}
 use Rattle.settling.specs.Outcome.{done, byState}
 use Rattle.settling.specs.Left.{ImageOfSome}
 use Rattle.doorkept.specs.Image.{draw-stays}
+use Rattle.module_calls.specs.Calls.{doorLook}
 use Rattle.door.specs.Door.{Drawn, doorDraw}
-use Rattle.demands.specs.Calls.{drawLanes, drawnLevels, runTrace, Host, Reply, reply, atDoor, hasWindow, inWindow, ImageOf}
-use Rattle.demands.specs.Demands.{DrawIsRun, DrawnInParts}
-use Rattle.demands.specs.DemandTwo.{image-is, at-image, on-state, imageHost, imageReply, image-or-none}
+use Rattle.demands.specs.Calls.{DoorCall, callHandler, drawLanes, drawnLevels, runTrace, Host, Reply, reply, atDoor, byDefinition, hasWindow, inWindow, metBy, wordSeen, ImageOf}
+use Rattle.demands.specs.Demands.{DrawIsRun, DrawnInParts, WordIsLooks}
+use Rattle.demands.specs.DemandTwo.{image-is, at-image, on-state, look-is, imageHost, imageReply, image-or-none, demand-two}
 use Rattle.demands.specs.DemandThree.{good-first, good-rest, none-bad, was-run, ranOn, ran-fits, ran-on, left-window}
 
 -- ---- what an accepted drawing has found: a window that fits, and levels alone
@@ -182,4 +193,64 @@ drawn-in-parts h start n a b la lb ea eb e =
       whole-lanes s h start n (a ++ b) (la ++ lb) image long fits good ∙ words-joined window a b
           ∙ ap₂ _++_ (sym (whole-lanes s h start n a la image ea fits (good-first a b good))) (sym (rest .3)),
     ))
+    (image-or-none (h .state))
+
+-- ---- a word by looks
+-- What looks show of three states is what a word is made of.
+seen-so :
+    (s t u : State) (level : ℕ) → let called : Bool = isCalled (s .mssp .phase) level in
+    wordSeen (viewOf s) (viewOf t) (viewOf u) level
+    ≡ wordBy (standingOf u) (linesOf (u .mssp)) (eventsOf called (called && storing s) (edgeAt (t .mssp) level) (inConflict (t .mssp .phase) level))
+seen-so s t u level =
+    let sc = s .mssp .config in let sl = s .mssp .live in
+    let tc = t .mssp .config in let tl = t .mssp .live in
+    let uc = u .mssp .config in let ul = u .mssp .live in
+    let stat = bits-back (sc .smp) (sc .cke) (sl .da) (sl .p) (sl .s) (sl .rw) (isHeldForAdd (s .mssp .phase)) (sl .bf) in
+    let con1 = bits-back (sc .wcol) (sl .sspov) (sc .sspen) (sl .ckp) (sc .sspm3) (sc .sspm2) (sc .sspm1) (sc .sspm0) in
+    let enabled = bits-back (tc .wcol) (tl .sspov) (tc .sspen) (tl .ckp) (tc .sspm3) (tc .sspm2) (tc .sspm1) (tc .sspm0) .is5 in
+    let after1 = bits-back (uc .wcol) (ul .sspov) (uc .sspen) (ul .ckp) (uc .sspm3) (uc .sspm2) (uc .sspm1) (uc .sspm0) in
+    let after2 = bits-back (uc .gcen) (ul .ackstat) (uc .ackdt) false false false false (uc .sen) .is6 in
+    let after3 = bits-back (ul .acktim) (uc .pcie) (uc .scie) false (uc .sdaht) (uc .sbcde) (uc .ahen) (uc .dhen) .is7 in
+    rw (bool-back (sclPulled (s .mssp .phase)), bool-back (sl .sspif), bool-back (s .handler .due), stat .is5, stat .is2, con1 .is4)
+    (rw (bool-back (sclPulled (t .mssp .phase)), bool-back (sdaPulled (t .mssp .phase)), bool-back (t .mssp .line .mark), wire-back (t .mssp .line .remembered), enabled)
+    (rw (bool-back (sdaPulled (u .mssp .phase)), bool-back (ul .sspif), wire-back (u .mssp .line .remembered), after1 .is4, after1 .is6, after1 .is7, after2, after3)))
+
+-- What a look shows after one call.
+look-after : (s : State) (h : Host) (c : DoorCall) → ImageOf s (h .state) → doorLook (atDoor h c .left .state) ≡ viewOf (byDefinition (served s (h .buffer)) c .left .state)
+look-after s h c image = demand-two s h (c ∷ []) image .3
+
+module _ (s : State) (h : Host) (start n level : ℕ) (image : ImageOf s (h .state)) (k : Found s h start n (level ∷ [])) where
+  abbrev here : Served
+  here = served s (windowOf start n (h .buffer))
+
+  met-if : (c : Bool) → doorLook (cond c (atDoor h (callHandler start n) .left) h .state) ≡ viewOf (metIf c here .state)
+  unfolding afterAll
+  met-if true =
+      look-after s h (callHandler start n) image
+      ∙ ap (λ (f : Bool). viewOf (inWindow f false 0 (served s (h .buffer)) start n (Call ∷ []) .left .state)) (k .fits)
+  met-if false = look-is s h image
+
+  met-shown : doorLook (metBy h start n level .state) ≡ viewOf (met here level .state)
+  met-shown = rw (look-is s h image, bool-back (sclPulled (s .mssp .phase))) (met-if (isCalled (s .mssp .phase) level))
+
+  left-shown : (lane : ℕ) → doorLook (atDoor h (drawLanes start n (level ∷ []) (lane ∷ [])) .left .state) ≡ viewOf (itemTaken here level .state)
+  unfolding allTaken
+  left-shown lane =
+      look-after s h (drawLanes start n (level ∷ []) (lane ∷ [])) image
+      ∙ ap₂ (λ (f bad : Bool). viewOf (inWindow f bad (firstAbove 3 (level ∷ [])) (served s (h .buffer)) start n (map itemAt (driven here (level ∷ []))) .left .state)) (k .fits) (k .tested)
+      ∙ ap (λ (x : Served). viewOf (x .state)) (sym (taken-is-run here (level ∷ []) (k .good)))
+
+pub word-is-looks : WordIsLooks
+unfolding byState allWords
+word-is-looks h start n level lane e =
+    ⊎-elim (λ k. let six : _≡_ {A = ℕ} 6 0 = rw (k .0) at e in absurd (omega arith))
+    (λ k.
+    let s : State = k .0 in
+    let image : ImageOf s (h .state) = k .2 in
+    let whole = found s h start n (level ∷ []) (lane ∷ []) image e in
+    let window : Served = served s (windowOf start n (h .buffer)) in
+    lanes-drawn s h start n (level ∷ []) (lane ∷ []) image whole
+    ∙ ap (λ (word : ℕ). word ∷ []) (sym (seen-so s (met window level .state) (itemTaken window level .state) level))
+    ∙ ap (λ (before : View). wordSeen before (viewOf (met window level .state)) (viewOf (itemTaken window level .state)) level ∷ []) (sym (look-is s h image))
+    ∙ ap₂ (λ (met after : View). wordSeen (doorLook (h .state)) met after level ∷ []) (sym (met-shown s h start n level image whole)) (sym (left-shown s h start n level image whole lane)))
     (image-or-none (h .state))
