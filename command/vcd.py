@@ -15,38 +15,72 @@ DUMPS = (b"$dumpvars", b"$dumpall", b"$dumpon", b"$dumpoff", b"$end")
 TIMESCALE = re.compile(r"(1|10|100) ?(s|ms|us|ns|ps|fs)\Z")
 VALUES = b"01xz"  # of a line; one that has none yet is the fifth
 NONE = len(VALUES)
-KNOWN_WORDS = 100_000
+MOST_KNOWN = 10_000
+MOST_DIGITS = 19  # of a time
 CUT_SHORT = "the last line is not ended: the file is cut short"
 
 # The lines' values as one number, 5 * SCL + SDA, and the level that it stands for.
 LEVEL = [2 * (both // 5) + both % 5 if both // 5 < 2 and both % 5 < 2 else None for both in range(25)]
+SAME = bytes(range(25))  # what a change of another signal does to them
 
 
 class Words:
-    """The words of a text, part by part, and the lines on which they stand."""
+    """The words of a text, part by part, and the lines on which they stand. A part comes in pieces, each but the first from a time
+    at the beginning of a line up to the next one, without its mark (#)."""
 
     def __init__(self, source):
         self.parts = lines_in_parts(source, "VCD", b"\n \t\r")
         self.part, self.line = b"", 1
-        self.words, self.at = [], 0
+        self.pieces, self.next = [], 0
+        self.words, self.at = [], 0  # of the piece before the next one
 
     def refill(self):
         """Goes on to the next part; answers whether there is one."""
         part, line = next(self.parts, (None, 0))
         if part is None:
             return False
-        self.part, self.line, self.words, self.at = part, line, part.split(), 0
+        self.part, self.line, self.pieces = part, line, part.split(b"\n#")
+        self.skip_to(0)
         try:
             part.decode("utf-8")
         except UnicodeDecodeError as wrong:
-            self.at = len(part[:wrong.start].split()) + 1
+            self.skip_to(part.count(b"\n#", 0, wrong.start))
+            self.open()
+            self.at = len((b"#" + part[:wrong.start].rpartition(b"\n#")[2] + b"x").split())
             raise Bad(f"the byte {part[wrong.start]:02X} is not ASCII, nor UTF-8") from None
         return True
+
+    def skip_to(self, piece):
+        """Goes on with a piece of the part."""
+        self.next, self.words, self.at = piece, [], 0
+
+    def piece(self, number):
+        """A piece with its mark."""
+        return (b"#" if number else b"") + self.pieces[number]
+
+    def open(self):
+        self.words, self.at = self.piece(self.next).split(), 0
+        self.next += 1
+
+    def is_at_time(self):
+        """Whether a time at the beginning of a line comes next."""
+        return self.at == len(self.words) and 0 < self.next < len(self.pieces)
+
+    def has_more(self):
+        """Whether there may be words left of the part."""
+        return self.at < len(self.words) or self.next < len(self.pieces)
+
+    def gap(self):
+        """What stands between a time and its changes, as the next piece has it."""
+        found = re.match(rb"[0-9]+(\s+)", self.pieces[self.next])
+        return found.group(1) if found else b"\n"
 
     def take(self):
         """The next word; None at the end."""
         while self.at == len(self.words):
-            if not self.refill():
+            if self.has_more():
+                self.open()
+            elif not self.refill():
                 return None
         self.at += 1
         return self.words[self.at - 1]
@@ -63,12 +97,15 @@ class Words:
 
     def is_cut(self):
         """Whether the word that was taken last is the file's end, without the end of a line."""
-        return self.at == len(self.words) and not self.part[-1:].isspace()
+        return not self.has_more() and not self.part[-1:].isspace()
 
     def here(self):
         """The line of the word that was taken last."""
-        found = next(itertools.islice(re.finditer(rb"\S+", self.part), max(self.at - 1, 0), None), None)
-        return self.line + (self.part.count(b"\n", 0, found.start()) if found else 0)
+        if self.next == 0:
+            return self.line
+        before = b"\n#".join(self.pieces[:self.next - 1] + [b""])
+        found = next(itertools.islice(re.finditer(rb"\S+", self.piece(self.next - 1)), max(self.at - 1, 0), None), None)
+        return self.line + before.count(b"\n") + (self.piece(self.next - 1).count(b"\n", 0, found.start()) if found else 0)
 
 
 def shown(word):
@@ -141,7 +178,8 @@ class Sampler:
         self.time = self.due = None  # the time reached, and that of the next item
         self.has_changed = False     # since the time began
         self.total = False           # whether there was any item yet
-        self.tables = {}             # what each known word does to the lines' values
+        self.tables = {}             # what each known word does to the lines' values, and what rows of them do
+        self.rows = {}
         self.levels, self.counts = bytearray(), array("Q")
 
     def flush(self):
@@ -185,14 +223,37 @@ class Sampler:
 
     def take(self, value, code):
         """A value change; other signals may have any value. Answers what it does to the lines' values."""
-        self.has_changed = True
         is_own = [code == line.code for line in self.lines]
         if any(is_own) and value not in (b"0", b"1", b"x", b"z"):
             raise Bad(f"{shown(value)} is no value of one bit")
         place = VALUES.find(value)
-        table = [5 * (place if is_own[0] else both // 5) + (place if is_own[1] else both % 5) for both in range(25)]
-        self.both = table[self.both]
+        table = bytes(5 * (place if is_own[0] else both // 5) + (place if is_own[1] else both % 5)
+                      for both in SAME) if any(is_own) else SAME
+        self.both, self.has_changed = table[self.both], True
         return table
+
+    def take_word(self, word):
+        """A value change of one character, with its identifier."""
+        table = self.tables.get(word)
+        if table is not None:
+            self.both, self.has_changed = table[self.both], True
+            return
+        table = self.take(word[:1].lower(), word[1:])
+        if len(self.tables) < MOST_KNOWN:
+            self.tables[word] = table
+
+    def row(self, text):
+        """What known words do one after the other; None where one is not known."""
+        tables = [self.tables.get(word) for word in text.split()]
+        if None in tables:
+            return None
+        whole = SAME
+        for table in tables:
+            if table is not SAME:
+                whole = whole.translate(table.ljust(256))
+        if len(self.rows) < MOST_KNOWN:
+            self.rows[text] = whole
+        return whole
 
     def finish(self):
         """The last time is sampled if it brought a change, or if it is the only one."""
@@ -202,20 +263,18 @@ class Sampler:
             self.settle(self.time + 1)
 
     def take_known(self, words):
-        """As many words as are times and known value changes, quickly; the first other one is left, and so is a wrong one."""
-        tables, both, time, due, period = self.tables, self.both, self.time, self.due, self.period
-        has_changed, levels, counts, last = self.has_changed, self.levels, self.counts, None
-        at = words.at - 1
-        for at, word in enumerate(itertools.islice(words.words, words.at, None), words.at):
-            table = tables.get(word)
-            if table is not None:
-                both, has_changed = table[both], True
-                continue
-            digits = word[1:]
-            if word[0] != 35 or not digits.isdigit() or len(digits) > 19:
+        """As many pieces as are a later time and known changes, quickly, but for the part's last one, which may go on; the first
+        other one is left, and so is a wrong one."""
+        rows, both, time, due, period = self.rows, self.both, self.time, self.due, self.period
+        levels, counts, last = self.levels, self.counts, None
+        at, gap = words.next - 1, words.gap()
+        for at, piece in enumerate(itertools.islice(words.pieces, words.next, len(words.pieces) - 1), words.next):
+            digits, _, changes = piece.partition(gap)
+            table, level = rows.get(changes) or self.row(changes), LEVEL[both]
+            if table is None or level is None or not digits.isdigit() or len(digits) > MOST_DIGITS:
                 break
-            now, level = int(digits), LEVEL[both]
-            if now < time or level is None:
+            now = int(digits)
+            if now <= time:
                 break
             if due < now:
                 count = (now - 1 - due) // period + 1
@@ -226,12 +285,13 @@ class Sampler:
                     levels.append(level)
                     counts.append(count)
                     last = level
-            if now > time:
-                time, has_changed = now, False
+            time, both = now, table[both]
         else:
             at += 1
-        self.total = self.total or len(levels) > 0
-        self.both, self.time, self.due, self.has_changed, words.at = both, time, due, has_changed, at
+        if at > words.next:
+            self.total, self.has_changed = self.total or len(levels) > 0, len(words.pieces[at - 1].split()) > 1
+            self.both, self.time, self.due = both, time, due
+            words.skip_to(at)
 
 
 class VcdReader:
@@ -265,12 +325,13 @@ class VcdReader:
     def take_part(self):
         """A part's words, or the last ones; answers whether there may be more."""
         words, sampler = self.words, self.sampler
-        while words.at < len(words.words) or words.refill():
-            if sampler.time is not None:
+        while words.has_more() or words.refill():
+            if sampler.time is not None and words.is_at_time():
                 sampler.take_known(words)
-            if words.at < len(words.words):
-                self.take_word(words.take())
-            elif sampler.levels:
+            word = words.take()
+            if word is not None:
+                self.take_word(word)
+            if sampler.levels and not words.has_more():
                 return True
         if not words.part.endswith(b"\n"):
             raise Bad(CUT_SHORT)
@@ -283,9 +344,7 @@ class VcdReader:
         if first == b"#":
             self.take_time(word)
         elif first in (b"0", b"1", b"x", b"z") and len(word) > 1:
-            table = self.sampler.take(first, word[1:])
-            if len(self.sampler.tables) < KNOWN_WORDS:
-                self.sampler.tables[word] = table
+            self.sampler.take_word(word)
         elif first in (b"b", b"r", b"s") and len(word) > 1:
             self.take_vector(word)
         elif word == b"$comment":
@@ -294,7 +353,7 @@ class VcdReader:
             raise Bad(f"{shown(word)} is no value change")
 
     def take_time(self, word):
-        if not re.match(rb"[0-9]{1,19}\Z", word[1:]):
+        if not word[1:].isdigit() or len(word) > 1 + MOST_DIGITS:
             raise Bad(f"{shown(word)} is no time")
         self.sampler.move(int(word[1:]))
         if self.first is None:

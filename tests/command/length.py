@@ -12,7 +12,7 @@ import sys
 import time
 import zipfile
 
-from common import SCRIPT, csv_text, expect, finish, get, put, record, vcd_text
+from common import COMMAND, SCRIPT, csv_text, expect, finish, get, put, record, vcd_text
 
 WORDS = "i S 42+ 05+ 1C+ 2D+ P i S 42+ 05+ S 43+ 1C+ 2D- P i S A0+ 00+ P i"
 BLOCK, DENSE = record(WORDS, 10, 10), record(WORDS, 1, 1)  # 20 samples for a clock, and as few as there may be
@@ -90,6 +90,14 @@ def limits(cases, seconds):
               f" {memory} megabytes")
 
 
+def in_parts(path):
+    """A VCD is sent on while it is read, so that its length is no memory."""
+    with open(path, "rb") as file:
+        source = COMMAND.readers.Source(file)
+        piece = next(COMMAND.readers.reader_of(source, COMMAND.parser().parse_args(["show", path, *MODEL])).pieces())
+    expect(0 < len(piece.levels) and source.taken < os.path.getsize(path) // 4, f"{path}: {source.taken} bytes before a piece")
+
+
 def long_time(out):
     """A VCD of hours at a nanosecond an item is as quick as a short one."""
     begin = time.monotonic()
@@ -144,6 +152,7 @@ def main(arguments):
     out, samples, seconds = arguments[0], int(arguments[1]), float(arguments[2])
     cases = files(out, samples)
     limits(cases, seconds)
+    in_parts(cases[4][0])
     long_time(out)
     bar(cases[4][0])
     interrupted(out, cases[3][0])
