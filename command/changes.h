@@ -4,6 +4,7 @@
 #define CHANGES_H
 
 #include <errno.h>
+#include <math.h>
 #include <stdint.h>
 #include <stdio.h>
 #include <string.h>
@@ -92,7 +93,7 @@ static void write_lanes(changes *c, uint64_t item, double seconds, uint64_t lane
     char line[1 + LONGEST_TIME + LONGEST_CHANGE * MOST_SIGNALS + 1], *signals, *end;
     uint64_t time;
 
-    c->is_timed = seconds == seconds;
+    c->is_timed = !isnan(seconds);
     time = c->is_timed ? time_by_seconds(c, seconds) : time_by_clock(c, item);
     signals = put_time(line, time);
     end = put_signals(c, signals, lanes);

@@ -38,7 +38,7 @@ class Window:
     def __init__(self, begin, end, most):
         self.begin, self.end, self.most = begin, end, most  # (number, is it a time), or None
         self.items = None if self.is_timed() else (begin[0] if begin else 0, end[0] if end else EVERYTHING)
-        self.sent = (0, 0)                 # its items, as the program was told them last
+        self.sent = (0, 0)  # its items, as the program was told them last
 
     def is_timed(self):
         return any(edge is not None and edge[1] for edge in (self.begin, self.end))
@@ -63,6 +63,14 @@ class Window:
         return tuple(EVERYTHING if place is None else place for place in self.items)
 
 
+def parted():
+    """A process like this one; answers its number here, and 0 in it."""
+    try:
+        return os.fork()
+    except OSError as wrong:
+        raise Bad(f"no process can be had to read it: {wrong.strerror}") from None
+
+
 class Feeder:
     """Sends a record to the program, in a process of its own so that reading and showing go side by side. The first piece is read
     before it parts: with it the reader knows its clock."""
@@ -74,8 +82,8 @@ class Feeder:
         pieces = reader.pieces()
         first = next(pieces, None)
         self.result, theirs = os.pipe()
-        before = signal.pthread_sigmask(signal.SIG_BLOCK, [signal.SIGINT])  # whoever is interrupted here ends both
-        self.process = os.fork()
+        before = signal.pthread_sigmask(signal.SIG_BLOCK, [signal.SIGINT])  # one of the two takes an interrupt, and ends both
+        self.process = parted()
         if self.process == 0:
             self.run(first, pieces, theirs)
         signal.pthread_sigmask(signal.SIG_SETMASK, before)
