@@ -14,6 +14,7 @@ KEYWORDS = (b"$comment", b"$date", b"$version", b"$scope", b"$upscope", b"$times
 DUMPS = (b"$dumpvars", b"$dumpall", b"$dumpon", b"$dumpoff", b"$end")
 TIMESCALE = re.compile(r"(1|10|100) ?(s|ms|us|ns|ps|fs)\Z")
 VALUES = b"01xz"  # of a line; one that has none yet is the fifth
+LONG_VALUES = (b"b", b"r", b"s")  # how a vector, a real number and a string begin
 NONE = len(VALUES)
 MOST_KNOWN = 10_000
 MOST_DIGITS = 19  # of a time
@@ -46,7 +47,7 @@ class Words:
         except UnicodeDecodeError as wrong:
             self.skip_to(part.count(b"\n#", 0, wrong.start))
             self.open()
-            self.at = len((b"#" + part[:wrong.start].rpartition(b"\n#")[2] + b"x").split())
+            self.at = len((part[part.rfind(b"\n#", 0, wrong.start) + 1:wrong.start] + b"x").split())
             raise Bad(f"the byte {part[wrong.start]:02X} is not ASCII, nor UTF-8") from None
         return True
 
@@ -243,17 +244,22 @@ class Sampler:
             self.tables[word] = table
 
     def row(self, text):
-        """What known words do one after the other; None where one is not known."""
-        tables = [self.tables.get(word) for word in text.split()]
-        if None in tables:
-            return None
-        whole = SAME
-        for table in tables:
+        """What known words do one after the other, and values of other signals; None where one is another."""
+        words, whole = iter(text.split()), SAME
+        for word in words:
+            table = self.tables.get(word) or self.of_other(word, words)
+            if table is None:
+                return None
             if table is not SAME:
                 whole = whole.translate(table.ljust(256))
         if len(self.rows) < MOST_KNOWN:
             self.rows[text] = whole
         return whole
+
+    def of_other(self, word, words):
+        """The same for a value of more than one character and its identifier, which is the next word: another signal's."""
+        code = next(words, None) if word[:1].lower() in LONG_VALUES and len(word) > 1 else None
+        return None if code is None or code in (self.lines[0].code, self.lines[1].code) else SAME
 
     def finish(self):
         """The last time is sampled if it brought a change, or if it is the only one."""
@@ -267,9 +273,9 @@ class Sampler:
         other one is left, and so is a wrong one."""
         rows, both, time, due, period = self.rows, self.both, self.time, self.due, self.period
         levels, counts, last = self.levels, self.counts, None
-        at, gap = words.next - 1, words.gap()
-        for at, piece in enumerate(itertools.islice(words.pieces, words.next, len(words.pieces) - 1), words.next):
-            digits, _, changes = piece.partition(gap)
+        at, gap, pieces = words.next - 1, words.gap(), words.pieces
+        for at in range(words.next, len(pieces) - 1):
+            digits, _, changes = pieces[at].partition(gap)
             table, level = rows.get(changes) or self.row(changes), LEVEL[both]
             if table is None or level is None or not digits.isdigit() or len(digits) > MOST_DIGITS:
                 break
@@ -289,7 +295,7 @@ class Sampler:
         else:
             at += 1
         if at > words.next:
-            self.total, self.has_changed = self.total or len(levels) > 0, len(words.pieces[at - 1].split()) > 1
+            self.total, self.has_changed = self.total or len(levels) > 0, len(pieces[at - 1].split()) > 1
             self.both, self.time, self.due = both, time, due
             words.skip_to(at)
 
@@ -345,7 +351,7 @@ class VcdReader:
             self.take_time(word)
         elif first in (b"0", b"1", b"x", b"z") and len(word) > 1:
             self.sampler.take_word(word)
-        elif first in (b"b", b"r", b"s") and len(word) > 1:
+        elif first in LONG_VALUES and len(word) > 1:
             self.take_vector(word)
         elif word == b"$comment":
             self.words.section(word)

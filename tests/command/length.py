@@ -106,6 +106,22 @@ def long_time(out):
     expect(done.returncode == 0 and time.monotonic() - begin < 5, f"a VCD of hours: {time.monotonic() - begin:.1f} s")
 
 
+def buses(out):
+    """A VCD with other signals that change at every time, vectors and numbers among them, gives the same table, as quickly."""
+    levels = BLOCK * 40
+    head, _, changes = vcd_text(levels).partition("#")
+    busy = "".join(f"#{piece}b{int(piece.split()[0]):b} %\nr{piece.split()[0]}.5 &\n{int(piece.split()[0]) % 2}'\nsidle <\n"
+                   for piece in changes.split("#"))
+    still = "".join(f"#{at}\nb{at:b} %\n" for at in range(len(levels) + 1, len(levels) + 100000))
+    begin = time.monotonic()
+    busy_path = put(out, "buses.vcd", head + busy + still)
+    plain = subprocess.run([sys.executable, SCRIPT, "show", put(out, "alone.vcd", vcd_text(levels)), *MODEL],
+                           stdout=subprocess.PIPE, check=False)
+    done = subprocess.run([sys.executable, SCRIPT, "show", busy_path, *MODEL], stdout=subprocess.PIPE, check=False)
+    taken = time.monotonic() - begin
+    expect(done.returncode == 0 and done.stdout == plain.stdout and taken < 10, f"buses: {done.returncode} {taken:.1f} s")
+
+
 def bar(path):
     """The bar is drawn where standard error is a terminal, and taken away; the table does not go there."""
     ours, theirs = pty.openpty()
@@ -154,6 +170,7 @@ def main(arguments):
     limits(cases, seconds)
     in_parts(cases[4][0])
     long_time(out)
+    buses(out)
     bar(cases[4][0])
     interrupted(out, cases[3][0])
     return finish()
