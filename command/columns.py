@@ -174,8 +174,12 @@ class ColumnsReader:
         part = part.replace(b"\r", b"")
         if separator != b" ":
             part = part.replace(b" ", b"")
+        if separator != b",":
+            part = part.replace(b",", b".")
         rows = part.count(b"\n")
         if not self.is_begun or part.translate(None, self.others) != self.pattern * rows or part[-1:] != b"\n":
+            return None
+        if b"_" in part:  # Python reads 1_0 as a number
             return None
         if len(part) == 2 * width * rows and not self.has_times:
             scl, sda = (part[2 * column::2 * width] for column in (self.scl, self.sda))

@@ -143,8 +143,13 @@ def wrong_tables(out):
     refused(out, "two.csv", "\n".join(far) + "\n", "line 50001: column SCL is 10, no level 0 or 1")
     far = csv_text(LEVELS * 200, "Time,SCL,SDA", "{time},{scl},{sda}").splitlines()
     for wrong, words in (("0.000002,1,1", "line 50001: time runs backwards, from 0.049998 to 2e-06"),
-                         ("soon,1,1", "line 50001: the time 'soon' is no number"), ("inf,1,1", "the time 'inf' is no number")):
+                         ("soon,1,1", "line 50001: the time 'soon' is no number"), ("inf,1,1", "the time 'inf' is no number"),
+                         ("1_0,1,1", "line 50001: the time '1_0' is no number")):
         refused(out, "times.csv", "\n".join(far[:50000] + [wrong] + far[50001:]) + "\n", words)
+    far = [row.replace(",", ";").replace(".", ",") for row in far]
+    for wrong, words in (("0,05.1;1;1", "line 50001: the time '0,05.1' is no number"), ("0,05;1;,1", "line 50001: column SDA is ,1, no level 0 or 1"),
+                         ("0,05;1;1,", "line 50001: column SDA is 1,, no level 0 or 1")):
+        refused(out, "commas.csv", "\n".join(far[:50000] + [wrong] + far[50001:]) + "\n", words)
     volts = csv_text(LEVELS).replace("1", "3.3").replace("0", "0.1")
     refused(out, "volts.csv", volts, "line 2: column SCL is 3.3, no level 0 or 1; volts are not taken")
     refused(out, "back.csv", timed.replace("0.000020000", "0.000002000"), "line 22: time runs backwards, from 1.9e-05 to 2e-06")
