@@ -12,8 +12,8 @@
 /* Signals are called by a letter each, from A on; characters of a time, and of a change with the blank before it. */
 enum { MOST_SIGNALS = 58, LONGEST_TIME = 20, LONGEST_CHANGE = 3 };
 
-/* The file, and what was written last. An item's time is by a clock, first + item * step / parts to the nearest whole; or it is its
-   own in seconds, written in nanoseconds and, where the first one lies before 0, from there on. */
+/* The file, and what was written last. An item's time is by a clock, first + item * step / parts to the nearest whole; or it is
+   its own in seconds, written in nanoseconds and, where the first one lies before 0, from there on. */
 typedef struct {
     FILE *file;                   /* NULL where no VCD is asked for */
     const char *wrong;            /* why no more is written */
@@ -86,8 +86,8 @@ static void write_text(changes *c, const char *text, size_t length)
         c->wrong = strerror(errno);
 }
 
-/* The lanes from an item on; seconds is not a number where it has no time of its own. What comes at the time that was written last
-   stands on a line without one. */
+/* The lanes from an item on; seconds is not a number where it has no time of its own. What comes at the time that was written
+   last stands on a line without one. */
 static void write_lanes(changes *c, uint64_t item, double seconds, uint64_t lanes)
 {
     char line[1 + LONGEST_TIME + LONGEST_CHANGE * MOST_SIGNALS + 1], *signals, *end;

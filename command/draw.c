@@ -514,8 +514,8 @@ static int draw_stream(drawing *d)
     while ((letter = getchar()) != 'e') {
         if (letter == EOF || !take_part(d, letter))
             return refuse("the stream is broken");
-        if (d->vcd.wrong != NULL)
-            return 0;
+        if (d->vcd.wrong != NULL || ferror(stdout))
+            return 0; /* nothing more can be written, or nobody reads it */
     }
     finish(d);
     if (d->vcd.file != NULL && !end_lanes(&d->vcd, d->to < d->item ? d->to : d->item))

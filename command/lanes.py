@@ -32,8 +32,8 @@ def is_fine(clock):
 
 
 class LanesFile:
-    """The VCD: its header, written here, and what the program is told so that it adds the changes. Times are in the units of a VCD
-    that was read, else in nanoseconds, or in picoseconds where that is not enough."""
+    """The VCD: its header, written here, and what the program is told so that it adds the changes. Times are in the units of a
+    VCD that was read, else in nanoseconds, or in picoseconds where that is not enough."""
 
     def __init__(self, output, reader, version):
         self.output, self.reader = output, reader

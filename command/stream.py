@@ -75,8 +75,8 @@ class Feeder:
     """Sends a record to the program, in a process of its own so that reading and showing go side by side. The first piece is read
     before it parts: with it the reader knows its clock."""
 
-    def __init__(self, pipe, reader, pictures, progress):
-        self.pipe, self.reader, self.pictures, self.progress = pipe, reader, pictures, progress
+    def __init__(self, program, reader, pictures, progress):
+        self.pipe, self.reader, self.pictures, self.progress = program.stdin, reader, pictures, progress
         self.items = 0
         self.sent = None  # the window that the program has
         pieces = reader.pieces()
@@ -85,14 +85,17 @@ class Feeder:
         before = signal.pthread_sigmask(signal.SIG_BLOCK, [signal.SIGINT])  # one of the two takes an interrupt, and ends both
         self.process = parted()
         if self.process == 0:
-            self.run(first, pieces, theirs)
+            self.run(program, first, pieces, theirs)
         signal.pthread_sigmask(signal.SIG_SETMASK, before)
         os.close(theirs)
-        pipe.close()
+        self.pipe.close()
 
-    def run(self, first, pieces, result):
-        """The process: feeds, tells what was wrong and ends without a word more."""
+    def run(self, program, first, pieces, result):
+        """The process: feeds, tells what was wrong and ends without a word more. What the program writes is not for it: were it
+        open here, nobody would learn that the other process has ended."""
         try:
+            program.stdout.close()
+            program.stderr.close()
             os.write(result, pickle.dumps(self.fed(first, pieces)))
         finally:
             os._exit(0)
@@ -185,7 +188,7 @@ def lines(words, reader, pictures, progress):
         raise Bad(f"{words[0]} cannot be run: {wrong.strerror}; WHERRYOAR_PROGRAM names another") from None
     feeder = None
     try:
-        feeder = Feeder(process.stdin, reader, pictures, progress)
+        feeder = Feeder(process, reader, pictures, progress)
         yield from process.stdout
         feeder.finish()
         told = process.stderr.read().decode("utf-8", "replace").strip()

@@ -3,7 +3,7 @@
 PLACE = "{:>10}  {:>14}  "
 SAID = "{:<12}  {:<8}  {:<4}  {:<9}  {:<7}  {:<8}"
 HEADER = (PLACE + SAID).format("item", "time", "event", "byte", "wire", "model", "pointer", "stored").rstrip()
-MOST_KNOWN = 100_000
+MOST_KNOWN = 10_000
 PULLS = "the model pulls SDA where the wire is high"
 MODEL = {b"-": "-", b"a": "ack", b"n": "nack", b"u": "sends ?", b"o": "elsewhere"}
 

@@ -26,8 +26,8 @@ SAME = bytes(range(25))  # what a change of another signal does to them
 
 
 class Words:
-    """The words of a text, part by part, and the lines on which they stand. A part comes in pieces, each but the first from a time
-    at the beginning of a line up to the next one, without its mark (#)."""
+    """The words of a text, part by part, and the lines on which they stand. A part comes in pieces, each but the first from a
+    time at the beginning of a line up to the next one, without its mark (#)."""
 
     def __init__(self, source):
         self.parts = lines_in_parts(source, "VCD", b"\n \t\r")

@@ -156,6 +156,13 @@ def interrupted(out, path):
         _, err = process.communicate()
         expect(process.returncode == status and err == b"", f"signal {number}: {process.returncode} {err!r}")
         expect(os.listdir(folder) == ["a.vcd"] and get(before) == b"before", f"signal {number}: {os.listdir(folder)}")
+    process = subprocess.Popen([sys.executable, SCRIPT, "show", path, *MODEL], stdout=subprocess.PIPE, stderr=subprocess.PIPE)
+    process.stdout.read(100)
+    process.kill()
+    try:
+        process.communicate(timeout=10)  # the processes that it began have its outputs too, and end them by their own end
+    except subprocess.TimeoutExpired:
+        expect(False, "a run that is killed: its processes go on")
     head = subprocess.run(f"'{sys.executable}' '{SCRIPT}' show '{path}' --add 42 | head -n 2", shell=True, stdout=subprocess.PIPE,
                           stderr=subprocess.PIPE, check=False)
     expect(head.stdout.count(b"\n") == 2 and head.stderr == b"", f"a reader that has seen enough: {head.stderr!r}")

@@ -76,7 +76,8 @@ def lanes_times(out):
              ("b.txt", digits(levels), [], "1 ns", 1, 0), ("c.txt", digits(levels), ["--rate", "1MHz"], "1 ns", 1000, 0),
              ("d.csv", csv_text(levels, "Time,SCL,SDA", "{time},{scl},{sda}", first=-0.5), [], "1 ns", 1000, 0),
              ("e.txt", digits(levels), ["--rate", "4GHz"], "1 ps", 250, 0),
-             ("f.txt", digits(levels), ["--rate", "1000GHz"], "1 ps", 1, 0), ("g.txt", digits(levels), ["--rate", "1"], "1 ns", 10**9, 0)]
+             ("f.txt", digits(levels), ["--rate", "1000GHz"], "1 ps", 1, 0),
+             ("g.txt", digits(levels), ["--rate", "1"], "1 ns", 10**9, 0)]
     for name, data, options, unit, step, first in cases:
         done = show(put(out, name, data), "--add", "42", *options, "--lanes", target)
         text = get(target).decode()
