@@ -116,8 +116,7 @@ static int end_lanes(changes *c, uint64_t item)
 
     end = put_time(line, time);
     *end++ = '\n';
-    if (time != c->time)
-        write_text(c, line, (size_t)(end - line));
+    write_text(c, line, (size_t)(end - line));
     if (fclose(c->file) != 0 && c->wrong == NULL)
         c->wrong = strerror(errno);
     return c->wrong == NULL;

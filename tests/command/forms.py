@@ -3,14 +3,16 @@
 
     forms.py OUT WIRES      WIRES is a folder of wire records as digits; OUT one for files
 """
+import argparse
 import contextlib
 import os
+import random
 import re
 import subprocess
 import sys
 import threading
 
-from common import counts, csv_text, digits, expect, finish, get, put, show, sr_bytes, vcd_text
+from common import COMMAND, counts, csv_text, digits, expect, finish, get, put, show, sr_bytes, vcd_text
 
 MODEL = ["--add", "30", "--general-call"]
 
@@ -129,6 +131,38 @@ def vcds(forms):
            f"a VCD of a long time: {slow.rows()[:1]}")
 
 
+def styled(chance, levels):
+    """A VCD of some levels, at random in all that may differ between two of one record."""
+    others = chance.choice([[""], ["", "b101 %", "1#", "b0\n#", "0a#7", "0999", "r1.5 %", "$comment a\n#3 b $end",
+                                   "sidle %"]])
+    gap, lines, before = chance.choice("\n "), [], None
+    for item, level in enumerate(levels):
+        changes = [chance.choice(["{}{}", "{}{}", "b{} {}"]).format(level >> bit & 1, code) for bit, code in ((1, "!"), (0, '"'))
+                   if before is None or (level ^ before) >> bit & 1 or chance.random() < 0.1]
+        if level != before or chance.random() < 0.2:
+            words = [f"#{item}"] * chance.choice([1, 1, 1, 2]) + changes + [chance.choice(others)]
+            lines.append(gap.join(word for word in words if word))
+        before = level
+    lines += [f"#{len(levels)}"] * chance.choice([1, 2])
+    text = vcd_text(levels).split("#", 1)[0] + "\n".join(lines) + "\n"
+    return text.replace("\n", chance.choice(["\n", "\r\n"])).encode("ascii")
+
+
+def vcds_at_random(forms):
+    """VCDs in all styles, read in parts of all sizes, give the levels that they were made of."""
+    chance, records = random.Random(4), sys.modules["records"]
+    plain, kept = argparse.Namespace(scl=None, sda=None, period=1), (records.HEAD, records.PART)
+    for _ in range(400):
+        begin = chance.randrange(len(forms.levels))
+        levels = forms.levels[begin:begin + chance.randrange(1, 200)]
+        text = styled(chance, levels)
+        records.HEAD, records.PART = chance.choice([40, kept[0]]), chance.choice([40, 100, kept[1]])
+        pieces = COMMAND.readers.reader_of_data(text, "vcd", plain).pieces()
+        found = b"".join(bytes([level]) * count for piece in pieces for level, count in zip(piece.levels, piece.counts))
+        expect(found == levels, f"parts of {records.PART} bytes: {text!r}")
+    records.HEAD, records.PART = kept
+
+
 def pipes(forms):
     """A capture that comes through a pipe; a .sr cannot, since a zip is read from its end."""
     fifo = os.path.join(forms.out, "fifo")
@@ -175,7 +209,7 @@ def main(arguments):
         print(__doc__, file=sys.stderr)
         return 2
     forms = Forms(arguments[0], os.path.join(arguments[1], "bench_4_general_call.txt"))
-    for test in (texts, binary, sigrok_files, tables, timed_tables, vcds, pipes, by_sigrok):
+    for test in (texts, binary, sigrok_files, tables, timed_tables, vcds, vcds_at_random, pipes, by_sigrok):
         before = counts["checks"]
         test(forms)
         expect(counts["checks"] > before, test.__name__)

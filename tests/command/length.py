@@ -90,8 +90,9 @@ def limits(cases, seconds):
               f" {memory} megabytes")
 
 
-def in_parts(path):
+def in_parts(out):
     """A VCD is sent on while it is read, so that its length is no memory."""
+    path = written_vcd(out, "parts.vcd", DENSE, 2000)
     with open(path, "rb") as file:
         source = COMMAND.readers.Source(file)
         piece = next(COMMAND.readers.reader_of(source, COMMAND.parser().parse_args(["show", path, *MODEL])).pieces())
@@ -175,7 +176,7 @@ def main(arguments):
     out, samples, seconds = arguments[0], int(arguments[1]), float(arguments[2])
     cases = files(out, samples)
     limits(cases, seconds)
-    in_parts(cases[4][0])
+    in_parts(out)
     long_time(out)
     buses(out)
     bar(cases[4][0])

@@ -20,10 +20,10 @@ MODEL = ["--add", "30", "--n", "32"]
 
 # ---- The lanes, told by the C program itself ----
 
-def lines_of(stream, add, *file):
+def lines_of(stream, add, *file, most=2**64 - 1):
     """What the program prints for a stream, with the lanes of every item."""
     line = [*COMMAND.stream.program(COMMAND.HERE), add, "32", "FF", "01", "-", *file]
-    stream = b"w" + struct.pack("<QQQ", 0, 2**64 - 1, 2**64 - 1) + stream + b"e"
+    stream = b"w" + struct.pack("<QQQ", 0, 2**64 - 1, most) + stream + b"e"
     return subprocess.run(line, input=stream, stdout=subprocess.PIPE, check=True).stdout.decode().splitlines()
 
 
@@ -77,13 +77,17 @@ def lanes_times(out):
              ("d.csv", csv_text(levels, "Time,SCL,SDA", "{time},{scl},{sda}", first=-0.5), [], "1 ns", 1000, 0),
              ("e.txt", digits(levels), ["--rate", "4GHz"], "1 ps", 250, 0),
              ("f.txt", digits(levels), ["--rate", "1000GHz"], "1 ps", 1, 0),
-             ("g.txt", digits(levels), ["--rate", "1"], "1 ns", 10**9, 0)]
+             ("g.txt", digits(levels), ["--rate", "1"], "1 ns", 10**9, 0),
+             ("h.txt", digits(levels), ["--rate", "1.00000000000000000001MHz"], "1 ns", 1000, 0)]
     for name, data, options, unit, step, first in cases:
         done = show(put(out, name, data), "--add", "42", *options, "--lanes", target)
         text = get(target).decode()
         start = levels.index(2)
         expect(done.status == 0 and f"$timescale {unit} $end" in text, f"{name}: its unit")
         expect(f"\n#{first + start * step} 0B" in text, f"{name}: its times")
+        times = [int(time) for time in re.findall(r"(?m)^#(\d+)", text)]
+        end = first + len(levels) * step if name != "d.csv" else times[-2] + 1
+        expect(times == sorted(set(times)) and times[-1] == end, f"{name}: its end {times[-2:]}")
         again = show(target, "--add", "42", "--period", str(step))
         rows = [[row.split()[0], *row[28:].split()] for row in done.rows()]
         expect([[row.split()[0], *row[28:].split()] for row in again.rows()] == rows, f"{name}: read again")
@@ -119,6 +123,9 @@ def lanes_of_runs(out):
     together += b"".join(struct.pack("<Q", len(part)) for part in parts)
     apart = b"r" + struct.pack("<I", len(levels)) + levels
     expect(lines_of(together, "42") == lines_of(apart, "42"), "every line of the program")
+    few = b"w" + struct.pack("<QQQ", 0, 50, 5) + apart + b"w" + struct.pack("<QQQ", 0, 2**64 - 1, 5) + apart
+    told = [line.split()[0] for line in lines_of(few, "42", most=0)]
+    expect(told.count("L") == 5 and told.count("W") == 3, f"no more lines than are asked for: {told.count('L')}")
     single, runs = put(out, "single.txt", digits(levels)), put(out, "runs.vcd", vcd_text(levels, timescale="1 ns"))
     for options in ([], ["--from", "700", "--to", "900"], ["--from", "845", "--to", "999999"], ["--from", "5", "--to", "30"]):
         files = [os.path.join(out, name) for name in ("single.vcd", "of_runs.vcd")]

@@ -106,6 +106,9 @@ def lines_alone():
         expect(len(row.said.differences) == marks, f"{answer} {model}: {row.said.differences}")
     refused = COMMAND.table.Row(b"B 36 - 4 38 1 42 0 n 00 0 00 - -\n").line(None)
     expect(refused.endswith("ack   nack       00                 < the wire acknowledges, the model does not"), refused)
+    for number in range(1 << 15):  # however many there are, few of them are kept
+        row = COMMAND.table.Row(f"B 9 - 4 8 - {number & 0xFF:02X} 0 a 00 0 {number >> 7:02X} - -\n".encode())
+    expect(row.said.pointer == "FF" and len(row.known) <= COMMAND.table.MOST_KNOWN, f"rows kept: {len(row.known)}")
 
 
 # ---- The model ----

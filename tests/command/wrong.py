@@ -4,9 +4,11 @@
     wrong.py OUT      OUT is a folder for files
 """
 import argparse
+import contextlib
 import io
 import os
 import random
+import re
 import resource
 import shutil
 import signal
@@ -91,6 +93,17 @@ def wrong_vcds(out):
     refused(out, "same.vcd", text, "SCL and SDA are both the signal SCL", "--sda", "scl")
     refused(out, "bad.vcd", text.replace("#40\n", "#40\nhello\n"), "line 12: hello is no value change")
     refused(out, "ff.vcd", text.encode().replace(b"today", b"\xff"), "line 1: the byte FF is not ASCII, nor UTF-8")
+    for word in ("1@!", "@1!"):
+        inside = text.replace("#40\n1!", f"#40\n{word}").encode().replace(b"@", b"\xff")
+        line = inside[:inside.index(0xFF)].count(b"\n") + 1
+        refused(out, "inside.vcd", inside, f"line {line}: the byte FF is not ASCII, nor UTF-8")
+    far = vcd_text(LEVELS * 20)  # so far behind the beginning that every word is known
+    times = re.findall(r"#(\d+)\n", far)
+    time = int(times[len(times) // 2])
+    for wrong, words in ((f"#{time - 1}\nx!\n#{time}\n", f"the signal SCL is x at time {time - 1}"),
+                         (f"#{'9' * 20}\n", f"#{'9' * 20} is no time"), (f"#{'9' * 5000}\n", f"#{'9' * 39}.. is no time"),
+                         (f"#{time}\n#0\n", f"time runs backwards, from {time} to 0")):
+        refused(out, "far.vcd", far.replace(f"#{time}\n", wrong, 1), words)
     refused(out, "rate.vcd", text, "it has times of its own: --rate is for a file that has none", "--rate", "1MHz")
 
 
@@ -144,7 +157,7 @@ def wrong_tables(out):
     far = csv_text(LEVELS * 200, "Time,SCL,SDA", "{time},{scl},{sda}").splitlines()
     for wrong, words in (("0.000002,1,1", "line 50001: time runs backwards, from 0.049998 to 2e-06"),
                          ("soon,1,1", "line 50001: the time 'soon' is no number"), ("inf,1,1", "the time 'inf' is no number"),
-                         ("1_0,1,1", "line 50001: the time '1_0' is no number")):
+                         ("0.0_5,1,1", "line 50001: the time '0.0_5' is no number")):
         refused(out, "times.csv", "\n".join(far[:50000] + [wrong] + far[50001:]) + "\n", words)
     far = [row.replace(",", ";").replace(".", ",") for row in far]
     for wrong, words in (("0,05.1;1;1", "line 50001: the time '0,05.1' is no number"),
@@ -176,7 +189,8 @@ def options(out):
             ([*own, "--n", "0"], "0 is no number from 1 to 256"),
             ([*own, "--n", "257"], "257 is no number from 1 to 256"),
             ([*own, "--mask", "1FF"], "1FF is no hex"),
-            ([*own, "--rate", "0"], "0 is no sample rate"),
+            ([*own, "--rate", "0"], "0 is no sample rate"), ([*own, "--rate", "0.99"], "0.99 is no sample rate"),
+            ([*own, "--rate", "1000.1GHz"], "1000.1GHz is no sample rate"),
             ([*own, "--rate", "fast"], "fast is no sample rate"),
             ([*own, "--period", "0"], "0 is no number from 1"),
             ([*own, "--as", "wav"], "invalid choice: 'wav'"),
@@ -262,8 +276,12 @@ def too_large(out):
     """A lanes file that becomes too large, in its header or later, or has times that are, is refused with its name."""
     folder = os.path.join(out, "too_large")
     os.makedirs(folder)
-    path, target = put(folder, "long.txt", digits(LEVELS * 50)), os.path.join(folder, "out.vcd")
-    for most in (100, 20000):
+    path, short = put(folder, "long.txt", digits(LEVELS * 50)), put(folder, "short.txt", digits(LEVELS))
+    target = os.path.join(folder, "out.vcd")
+    expect(show(short, "--add", "42", "--lanes", target).status == 0, "large enough")
+    for path, most in ((path, 100), (path, 20000), (short, os.path.getsize(target) - 1)):  # in the header, later, at the end
+        if os.path.exists(target):
+            os.remove(target)
         done = run_apart("show", path, "--add", "42", "--lanes", target,
                          preexec_fn=lambda most=most: resource.setrlimit(resource.RLIMIT_FSIZE, (most, most)))
         wanted = f"wherryoar: {target}: it cannot be written: File too large\n"
@@ -272,7 +290,7 @@ def too_large(out):
     done = show(far, "--add", "42", "--lanes", target)
     wanted = f"wherryoar: {target}: it cannot be written: its times do not fit into the 64 bits of a VCD's\n"
     expect(done.status == 2 and done.err == wanted, f"times: {done.err}")
-    expect(sorted(os.listdir(folder)) == ["far.csv", "long.txt"], f"left behind: {os.listdir(folder)}")
+    expect(sorted(os.listdir(folder)) == ["far.csv", "long.txt", "short.txt"], f"left behind: {os.listdir(folder)}")
     expect(show(far, "--add", "42").status == 0, "without lanes its times are no harm")
 
 
@@ -306,6 +324,21 @@ def signals(out):
     done = subprocess.run([*words[:-1], os.path.join(out, "is_not_there", "a.vcd")], input=b"e", stderr=subprocess.PIPE,
                           check=False)
     expect(done.returncode == 3 and done.stderr == b"No such file or directory\n", f"{done.returncode} {done.stderr}")
+
+
+def unread():
+    """The C program ends where nobody reads what it writes, and does not wait for the record's end."""
+    words = [*COMMAND.stream.program(COMMAND.HERE), "42", "4", "FF", "01", "-"]
+    part = record("S 42+ 05+ P", 1, 1) * 1000
+    with subprocess.Popen(words, stdin=subprocess.PIPE, stdout=subprocess.PIPE, restore_signals=False) as process:
+        process.stdout.close()
+        with contextlib.suppress(BrokenPipeError):
+            for _ in range(100):
+                process.stdin.write(b"r" + struct.pack("<I", len(part)) + part)
+            expect(False, "a program that nobody reads goes on")
+        with contextlib.suppress(BrokenPipeError):
+            process.stdin.close()
+    expect(process.returncode == 1, f"a program that nobody reads: {process.returncode}")
 
 
 def streams():
@@ -357,6 +390,7 @@ def main(arguments):
     for test in (strangers, wrong_digits, wrong_vcds, wrong_zips, wrong_tables, options, channels, pictures, too_large, programs,
                  killed, signals):
         test(out)
+    unread()
     streams()
     at_random(3000)
     return finish()
