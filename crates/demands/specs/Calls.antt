@@ -346,6 +346,10 @@ edgeSeen met level =
     (edgeOf (lineFrom (met .wire) (met .mark)) (onWire (eqb (met .«scl_pulled») 1) (sclOf level)) (onWire (eqb (met .«sda_pulled») 1) (sdaOf level)))
     Still
 
+-- The record shows both lines high while SDA is pulled.
+abbrev pub conflictSeen : View → ℕ → Bool
+conflictSeen met level = eqb (met .«sda_pulled») 1 && eqb level 3
+
 -- What stands: SCL pulled, phase, STAT, ACKTIM, ACKSTAT, WCOL, SSPOV, CKP and SSPIF, pointer, BUF.
 abbrev pub standingSeen : View → ℕ
 standingSeen after =
@@ -353,11 +357,15 @@ standingSeen after =
     (byteOf false false (bit 7 (after .con3)) (bit 6 (after .con2)) (bit 7 (after .con1)) (bit 6 (after .con1)) (bit 4 (after .con1)) (eqb (after .flag) 1))
     (after .pointer) (after .buf)
 
+-- The wire as it was last seen, and SDA pulled.
+abbrev pub linesSeen : View → ℕ
+linesSeen after = linesFrom (wireFrom (after .wire)) (eqb (after .«sda_pulled») 1)
+
 abbrev pub wordSeen : View → View → View → ℕ → ℕ
 wordSeen before met after level =
     let called : Bool = calledSeen before level in
-    wordBy (standingSeen after) (linesFrom (wireFrom (after .wire)) (eqb (after .«sda_pulled») 1))
-    (eventsOf called (called && storesSeen before) (edgeSeen met level) (eqb (met .«sda_pulled») 1 && eqb level 3))
+    wordBy (standingSeen after) (linesSeen after)
+    (eventsOf called (called && storesSeen before) (edgeSeen met level) (conflictSeen met level))
 
 -- ---- a firmware: register accesses and nothing else
 -- What a register shows; what a read and a write of it leave.

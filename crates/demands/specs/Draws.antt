@@ -1,4 +1,4 @@
--- A drawing is a run of the record as a trace, and cut anywhere it goes on where it was.
+-- A drawing is a run of the record as a trace, cut anywhere it goes on where it was, and its words are what looks show.
 use Prim.Native.Nat.{ℕ, _+_}
 use mathlib.Core.Logic.{⊎-elim}
 use mathlib.Core.Path.{_≡_, refl, sym, ap, ap₂, subst, _∙_}
@@ -11,6 +11,7 @@ use lib.Seq.{take-length, length-take-le}
 use borrow.Author.Tests.{ltb-false}
 use Rattle.items.specs.First.{firstAbove, NoneAbove}
 use Rattle.items.specs.Theorems.{none-above}
+use Rattle.wire.specs.declared.Edge.{Edge}
 use Rattle.wire.specs.Laws.{bool-back}
 use Rattle.mssp.specs.Phases.{isHeldForAdd}
 use Rattle.mssp.specs.Drivers.{sclPulled, sdaPulled}
@@ -36,7 +37,7 @@ use Rattle.settling.specs.Left.{ImageOfSome}
 use Rattle.doorkept.specs.Image.{draw-stays}
 use Rattle.module_calls.specs.Calls.{doorLook}
 use Rattle.door.specs.Door.{Drawn, doorDraw}
-use Rattle.demands.specs.Calls.{DoorCall, callHandler, drawLanes, drawnLevels, runTrace, Host, Reply, reply, atDoor, byDefinition, hasWindow, inWindow, metBy, wordSeen, ImageOf}
+use Rattle.demands.specs.Calls.{DoorCall, callHandler, drawLanes, drawnLevels, runTrace, Host, Reply, reply, atDoor, byDefinition, hasWindow, inWindow, calledSeen, metBy, storesSeen, edgeSeen, conflictSeen, standingSeen, linesSeen, wordSeen, ImageOf}
 use Rattle.demands.specs.Demands.{DrawIsRun, DrawnInParts, WordIsLooks}
 use Rattle.demands.specs.DemandTwo.{image-is, at-image, on-state, look-is, imageHost, imageReply, image-or-none, demand-two}
 use Rattle.demands.specs.DemandThree.{good-first, good-rest, none-bad, was-run, ranOn, ran-fits, ran-on, left-window}
@@ -196,24 +197,49 @@ drawn-in-parts h start n a b la lb ea eb e =
     (image-or-none (h .state))
 
 -- ---- a word by looks
+-- What stands, and the lines, by a look after the item.
+standing-seen : (u : State) → standingSeen (viewOf u) ≡ standingOf u
+standing-seen u =
+    let c = u .mssp .config in let l = u .mssp .live in
+    let con1 = bits-back (c .wcol) (l .sspov) (c .sspen) (l .ckp) (c .sspm3) (c .sspm2) (c .sspm1) (c .sspm0) in
+    let ackstat = bits-back (c .gcen) (l .ackstat) (c .ackdt) false false false false (c .sen) .is6 in
+    let acktim = bits-back (l .acktim) (c .pcie) (c .scie) false (c .sdaht) (c .sbcde) (c .ahen) (c .dhen) .is7 in
+    rw (bool-back (l .sspif), con1 .is4, con1 .is6, con1 .is7, ackstat, acktim)
+
+lines-seen : (u : State) → linesSeen (viewOf u) ≡ linesOf (u .mssp)
+lines-seen u = rw (bool-back (sdaPulled (u .mssp .phase)), wire-back (u .mssp .line .remembered))
+
+-- The handler's call and what it stores, by a look before it.
+called-seen : (s : State) (level : ℕ) → calledSeen (viewOf s) level ≡ isCalled (s .mssp .phase) level
+called-seen s level = rw (bool-back (sclPulled (s .mssp .phase)))
+
+stores-seen : (s : State) → storesSeen (viewOf s) ≡ storing s
+stores-seen s =
+    let c = s .mssp .config in let l = s .mssp .live in
+    let stat = bits-back (c .smp) (c .cke) (l .da) (l .p) (l .s) (l .rw) (isHeldForAdd (s .mssp .phase)) (l .bf) in
+    let ckp = bits-back (c .wcol) (l .sspov) (c .sspen) (l .ckp) (c .sspm3) (c .sspm2) (c .sspm1) (c .sspm0) .is4 in
+    rw (bool-back (l .sspif), bool-back (s .handler .due), stat .is5, stat .is2, ckp)
+
+-- Edge and conflict, by the look that the item meets.
+edge-seen : (t : State) (level : ℕ) → edgeSeen (viewOf t) level ≡ edgeAt (t .mssp) level
+edge-seen t level =
+    let c = t .mssp .config in let l = t .mssp .live in
+    let sspen = bits-back (c .wcol) (l .sspov) (c .sspen) (l .ckp) (c .sspm3) (c .sspm2) (c .sspm1) (c .sspm0) .is5 in
+    rw (bool-back (sclPulled (t .mssp .phase)), bool-back (sdaPulled (t .mssp .phase)), bool-back (t .mssp .line .mark), wire-back (t .mssp .line .remembered), sspen)
+
+conflict-seen : (t : State) (level : ℕ) → conflictSeen (viewOf t) level ≡ inConflict (t .mssp .phase) level
+conflict-seen t level = rw (bool-back (sdaPulled (t .mssp .phase)))
+
 -- What looks show of three states is what a word is made of.
 seen-so :
     (s t u : State) (level : ℕ) → let called : Bool = isCalled (s .mssp .phase) level in
     wordSeen (viewOf s) (viewOf t) (viewOf u) level
     ≡ wordBy (standingOf u) (linesOf (u .mssp)) (eventsOf called (called && storing s) (edgeAt (t .mssp) level) (inConflict (t .mssp .phase) level))
 seen-so s t u level =
-    let sc = s .mssp .config in let sl = s .mssp .live in
-    let tc = t .mssp .config in let tl = t .mssp .live in
-    let uc = u .mssp .config in let ul = u .mssp .live in
-    let stat = bits-back (sc .smp) (sc .cke) (sl .da) (sl .p) (sl .s) (sl .rw) (isHeldForAdd (s .mssp .phase)) (sl .bf) in
-    let con1 = bits-back (sc .wcol) (sl .sspov) (sc .sspen) (sl .ckp) (sc .sspm3) (sc .sspm2) (sc .sspm1) (sc .sspm0) in
-    let enabled = bits-back (tc .wcol) (tl .sspov) (tc .sspen) (tl .ckp) (tc .sspm3) (tc .sspm2) (tc .sspm1) (tc .sspm0) .is5 in
-    let after1 = bits-back (uc .wcol) (ul .sspov) (uc .sspen) (ul .ckp) (uc .sspm3) (uc .sspm2) (uc .sspm1) (uc .sspm0) in
-    let after2 = bits-back (uc .gcen) (ul .ackstat) (uc .ackdt) false false false false (uc .sen) .is6 in
-    let after3 = bits-back (ul .acktim) (uc .pcie) (uc .scie) false (uc .sdaht) (uc .sbcde) (uc .ahen) (uc .dhen) .is7 in
-    rw (bool-back (sclPulled (s .mssp .phase)), bool-back (sl .sspif), bool-back (s .handler .due), stat .is5, stat .is2, con1 .is4)
-    (rw (bool-back (sclPulled (t .mssp .phase)), bool-back (sdaPulled (t .mssp .phase)), bool-back (t .mssp .line .mark), wire-back (t .mssp .line .remembered), enabled)
-    (rw (bool-back (sdaPulled (u .mssp .phase)), bool-back (ul .sspif), wire-back (u .mssp .line .remembered), after1 .is4, after1 .is6, after1 .is7, after2, after3)))
+    let events : Bool → Bool → Edge → Bool → ℕ = λ called stores edge conflict. eventsOf called (called && stores) edge conflict in
+    ap₂ (λ (stands lines : ℕ). wordBy stands lines (events (calledSeen (viewOf s) level) (storesSeen (viewOf s)) (edgeSeen (viewOf t) level) (conflictSeen (viewOf t) level))) (standing-seen u) (lines-seen u)
+    ∙ ap₂ (λ (called stores : Bool). wordBy (standingOf u) (linesOf (u .mssp)) (events called stores (edgeSeen (viewOf t) level) (conflictSeen (viewOf t) level))) (called-seen s level) (stores-seen s)
+    ∙ ap₂ (λ (edge : Edge) (conflict : Bool). wordBy (standingOf u) (linesOf (u .mssp)) (events (isCalled (s .mssp .phase) level) (storing s) edge conflict)) (edge-seen t level) (conflict-seen t level)
 
 -- What a look shows after one call.
 look-after : (s : State) (h : Host) (c : DoorCall) → ImageOf s (h .state) → doorLook (atDoor h c .left .state) ≡ viewOf (byDefinition (served s (h .buffer)) c .left .state)
@@ -231,7 +257,7 @@ module _ (s : State) (h : Host) (start n level : ℕ) (image : ImageOf s (h .sta
   met-if false = look-is s h image
 
   met-shown : doorLook (metBy h start n level .state) ≡ viewOf (met here level .state)
-  met-shown = rw (look-is s h image, bool-back (sclPulled (s .mssp .phase))) (met-if (isCalled (s .mssp .phase) level))
+  met-shown = rw (look-is s h image, called-seen s level) (met-if (isCalled (s .mssp .phase) level))
 
   left-shown : (lane : ℕ) → doorLook (atDoor h (drawLanes start n (level ∷ []) (lane ∷ [])) .left .state) ≡ viewOf (itemTaken here level .state)
   unfolding allTaken
