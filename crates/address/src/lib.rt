@@ -1,11 +1,13 @@
 // The address comparison: which address a first byte hits, by a module's registers.
+#![tactic(auto)]
+
 ghost use Rattle.std.specs.Prelude.{◌≡◌};
 ghost use Rattle.address.specs.Comparison.{hit_number, fitting, hit_of, is_taken};
 
 use mssp::Config;
 
 // What the comparison says of a byte.
-#[derive(Drop)]
+#[derive(Clone, Copy)]
 pub enum Hit {
     None,
     Own,

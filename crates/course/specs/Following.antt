@@ -103,9 +103,9 @@ apart_fall (passing {y = Got level}) = to others_byte (runs (apart within))
 
 -- While a byte is sent, whatever SDA does.
 sends :
-    {add x place : ℕ} {c : Config} {w : Course} {l : Live} {y : Line} {r : Reader} {scl sda : Bool} {e : Edge}
-    → Follows add c w (module_of c l (Sending x place) y) r → Move y.remembered (Wire scl sda) e
-    → Led add c w (heard_at r.place e) (module_at_edge e scl sda (module_of c l (Sending x place) y)) (reader_at_edge e scl sda r)
+    {add x place : ℕ} {c c' : Config} {w : Course} {l : Live} {y : Line} {r : Reader} {scl sda : Bool} {e : Edge}
+    → Follows add c w (module_of c' l (Sending x place) y) r → Move y.remembered (Wire scl sda) e
+    → Led add c w (heard_at r.place e) (module_at_edge e scl sda (module_of c' l (Sending x place) y)) (reader_at_edge e scl sda r)
 unfolding module_at_edge reader_at_edge
 sends (runs (sent-low h)) stays = still (sent-low h)
 sends (runs (sent-low {b = b} h)) (rises {sda = y}) = still (sent-high b y h)
@@ -119,6 +119,7 @@ sends (runs (sent-high b y h)) falls =
     (λ t. let g = ltb-false b.count 7 t in rw (t, eq-eqb (b.count % 8 + 1) 8 (omega arith)) (still asked_low))
 sends (runs (sent-high b y h)) starts = to start (runs addressing)
 sends (runs (sent-high b y h)) stops = to stop (runs (apart idle))
+sends (waits x) _ = elim x [ ]
 
 looks :
     {add : ℕ} {c : Config} {w : Course} {m : Module} {r : Reader} {e : Edge} (l d : Bool) → AnswersAlone add c

@@ -193,7 +193,7 @@ SomeAbove most items = (k : ℕ) × (k < length items) × (most < get_or items k
 
 -- The table: why each call is refused, in the order in which that is looked at.
 abbrev pub causes : Host → DoorCall → List Cause
-causes h (set_up add n) = (NoState when (length h.state ≡ image_length → ⊥)) ∷ (NoWindow when (n ≡ 0) ⊎ (longest_window < n)) ∷ []
+causes h (set_up add n) = (NoState when (length h.state ≡ image_length → ⊥)) ∷ (NoWindow when ((n ≡ 0) ⊎ (longest_window < n))) ∷ []
 causes h (read_register number) = (NoState when ImageOfNone h.state) ∷ (NoRegister when 7 < number) ∷ []
 causes h (write_register number value) =
     (NoState when ImageOfNone h.state) ∷ (NoRegister when 7 < number) ∷ (ReservedBit when SetsReserved number value)

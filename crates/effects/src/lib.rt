@@ -1,4 +1,6 @@
 // What reading BUF, writing BUF, setting CKP, writing ADD and disabling do to the module.
+#![tactic(auto)]
+
 ghost use Rattle.std.specs.Prelude.{◌≡◌};
 ghost use Rattle.effects.specs.Effects.{emptied, loaded, released, released_phase, next_phase, updated_phase, updated, disabled};
 

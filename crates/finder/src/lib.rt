@@ -1,4 +1,6 @@
 // The finder: the message under the cursor, as a part of the caller's own wire record.
+#![tactic(auto)]
+
 ghost use Rattle.std.specs.Prelude.{◌≡◌, ◌+◌, ◌<◌, ◌≤◌, length};
 ghost use Rattle.finder.specs.Messages.{is_stop, lies_by, end_at};
 ghost use Rattle.finder.specs.Carried.{unread, read_on, carried_before};
@@ -9,14 +11,14 @@ use refusals::Refusal;
 use wire::{Edge, Line, Remembered};
 
 // Where an item lies: in no message, or in the one whose Start is the item given.
-#[derive(Drop)]
+#[derive(Clone, Copy)]
 pub enum Whereabouts {
     Outside,
     Inside(usize),
 }
 
 // What is carried on from an item: the line, the edge that the item made, and where it lies.
-#[derive(Drop)]
+#[derive(Clone, Copy)]
 pub struct Carried {
     pub line: Line,
     pub edge: Edge,

@@ -1,4 +1,6 @@
 // The firmware: the handler that serves the module over a lent window, and its set-up.
+#![tactic(auto)]
+
 ghost use Rattle.std.specs.Prelude.{◌≡◌, ◌+◌, ◌≤◌, length};
 ghost use Rattle.firmware.specs.Handler.{is_window_length, setup_of, served, acknowledged, addressed, sent, taken, called};
 ghost use Rattle.firmware.specs.Window.{window_fits, called_in, window_outcome, call_of};
@@ -10,27 +12,27 @@ use refusals::{Refusal, Verdict};
 pub const LONGEST_WINDOW: u64 = 256;
 
 // The handler's own variables: the window's length, the pointer, and whether a pointer byte is due.
-#[derive(Drop)]
+#[derive(Clone, Copy)]
 pub struct Handler {
     pub n: u16,
     pub pointer: u16,
     pub due: bool,
 }
 
-#[derive(Drop)]
+#[derive(Clone, Copy)]
 pub struct State {
     pub mssp: Module,
     pub handler: Handler,
 }
 
-#[derive(Drop)]
+#[derive(Clone, Copy)]
 pub enum Made {
     Ready(State),
     NotMade(Refusal),
 }
 
 // What a call answers, and the state after it.
-#[derive(Drop)]
+#[derive(Clone, Copy)]
 pub struct Called {
     pub verdict: Verdict,
     pub state: State,

@@ -1,5 +1,7 @@
 // The handler's own calls on the bytes of a state: set-up, a handler call, a run, a drawing. Refusals are looked at in the paper's order,
 // and a refused call changes no byte.
+#![tactic(auto)]
+
 ghost use Rattle.std.specs.Prelude.{◌≡◌};
 ghost use Rattle.settling.specs.Outcome.{outcome, lent};
 ghost use Rattle.firmware_calls.specs.Calls.{door_setup, door_call, door_run, drawn_lent, door_lanes};

@@ -1,11 +1,13 @@
 // What a search for a message answers, and the numbers that stand for it at the door.
+#![tactic(auto)]
+
 ghost use Rattle.std.specs.Prelude.{◌≡◌};
 ghost use Rattle.found.specs.Numbers.{refusal_of, bad_item_of, start_of, length_of};
 
 use refusals::Refusal;
 
 // The answer: a part's start and length, or why there is none and the item beside the refusal.
-#[derive(Drop)]
+#[derive(Clone, Copy)]
 pub enum Found {
     Part(u64, u64),
     NotFound(Refusal, u64),

@@ -1,5 +1,7 @@
 // A history: samples, handler calls and register accesses as numbers, one after the other over a state and its window, and
 // what the first so many of them leave.
+#![tactic(auto)]
+
 ghost use Rattle.std.specs.Prelude.{◌≡◌, take};
 ghost use Rattle.firmware.specs.Handler.{served};
 ghost use Rattle.history.specs.History.{item_of, history_of};

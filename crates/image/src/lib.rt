@@ -1,4 +1,6 @@
 // A state as its image of 48 bytes, and back: what C holds of a state is its image, and each state has one.
+#![tactic(auto)]
+
 mod handler_part;
 
 ghost use Rattle.std.specs.Prelude.{◌≡◌, length};
@@ -16,7 +18,7 @@ const USED: usize = 21;
 const ZEROS: usize = 27;
 
 // What bytes are an image of.
-#[derive(Drop)]
+#[derive(Clone, Copy)]
 pub enum Decoded {
     Image(State),
     NoImage,
@@ -29,7 +31,7 @@ pub fn encode(s: State) -> [u8; IMAGE_LENGTH]
     let handler = handler_part::handler_part(s.handler);
     let mut image = [0u8; IMAGE_LENGTH];
     module_image::save(s.mssp, &mut image);
-    bytes::copy(&handler, &mut image[MODULE_LENGTH..]);
+    image[MODULE_LENGTH..USED].copy_from_slice(&handler);
     image
 }
 

@@ -1,11 +1,13 @@
 // The report's input: what each byte of it is, and how many items it has.
+#![tactic(auto)]
+
 ghost use Rattle.std.specs.Prelude.{◌≡◌};
 ghost use Rattle.input.specs.Input.{asks_general, meaning_of, is_foreign, item_count, checked_of};
 
 use steps::Item;
 
 // What a byte of the input is: passed over, an item, or neither.
-#[derive(Drop)]
+#[derive(Clone, Copy)]
 pub enum Meaning {
     Skipped,
     AnItem(Item),
@@ -13,7 +15,7 @@ pub enum Meaning {
 }
 
 // How many items the input has: all of it, or up to its first foreign byte.
-#[derive(Drop)]
+#[derive(Clone, Copy)]
 pub enum Checked {
     Whole(usize),
     Cut(usize),

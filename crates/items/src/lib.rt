@@ -1,5 +1,7 @@
 // The first item of a kind in a trace or a record: the first out of range, and the first that differs. Eight are looked at
 // at a time, so that a processor may take them together.
+#![tactic(auto)]
+
 ghost use Rattle.std.specs.Prelude.{◌+◌, ◌≤◌, ◌≡◌, eqb, leb, length, drop};
 ghost use Rattle.items.specs.First.{first_above, sames, eight_of, Reached};
 

@@ -1,5 +1,7 @@
 // The lanes of a wire record: a word for each item, in their order. A stretch of samples that move nothing but bits and wire is
 // painted; every other item is drawn by itself.
+#![tactic(auto)]
+
 ghost use Rattle.std.specs.Prelude.{◌+◌, ◌≤◌, ◌≡◌, length};
 ghost use Rattle.firmware.specs.Handler.{served};
 ghost use Rattle.firmware.specs.Window.{window_outcome};
@@ -15,7 +17,7 @@ use trace::Ran;
 use wire::Edge;
 
 // What a stretch is painted with: whether a byte is sent, the byte and its place, whether SDA is pulled, and SCL as it was.
-#[derive(Drop)]
+#[derive(Clone, Copy)]
 pub struct Brush {
     pub sends: bool,
     pub byte: u8,

@@ -1,4 +1,6 @@
 // The report: what the input's items make on the wire, as lines in a lent buffer.
+#![tactic(auto)]
+
 ghost use Rattle.std.specs.Prelude.{◌≡◌, ◌+◌, ◌*◌, ◌<◌, ◌≤◌, ◌^◌, true, length};
 ghost use Rattle.reader.specs.Reader.{reader_afresh};
 ghost use Rattle.input.specs.Input.{parse, clean, items_in, meaning_of, checked_of};
@@ -14,7 +16,7 @@ use watch::World;
 use wire::{Line, Remembered};
 
 // How far a report has come: the world, the next item's number, the place of the next byte.
-#[derive(Drop)]
+#[derive(Clone, Copy)]
 pub struct Run {
     pub world: World,
     pub item: usize,

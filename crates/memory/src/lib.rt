@@ -1,4 +1,6 @@
 // A memory with a pointer: what the handler and the plain device do to it, said once.
+#![tactic(auto)]
+
 ghost use Rattle.std.specs.Prelude.{◌≡◌, get_or, set};
 ghost use Rattle.memory.specs.Memory.{modulo, pointer_on};
 

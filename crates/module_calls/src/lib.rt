@@ -1,6 +1,8 @@
 // The calls on the bytes of a state that see its module alone, whatever its handler does: a read, a write, a sample, a look,
 // a question which address hits.
 // Refusals are looked at in the paper's order, and a refused call changes no byte.
+#![tactic(auto)]
+
 ghost use Rattle.std.specs.Prelude.{◌≡◌, ◌≤◌, true};
 ghost use Rattle.trace.specs.Run.{sampled_by};
 ghost use Rattle.image.specs.Image.{encode_of, parse_of, is_state};

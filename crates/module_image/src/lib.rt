@@ -1,5 +1,7 @@
 // The module's part of an image: the registers as they read but for UA, the phase with its parts, the line, and the full match;
 // whether bytes begin with one, the module that they name, and what is written over it.
+#![tactic(auto)]
+
 ghost use Rattle.std.specs.Prelude.{◌≡◌, ◌≤◌, length, take};
 ghost use Rattle.codec.specs.Codec.{same_bytes};
 ghost use Rattle.mssp.specs.Module.{stand_of};
@@ -188,7 +190,7 @@ pub fn save(m: Module, b: &mut [u8])
     ensures { b.new ≡ with_module m b.old }
 {
     let part = module_part(m);
-    bytes::copy(&part, b);
+    b[..MODULE_LENGTH].copy_from_slice(&part);
 }
 
 // Phase and line alone are written; the bytes of the registers stay.
@@ -197,5 +199,5 @@ pub fn save_stand(phase: Phase, line: Line, b: &mut [u8])
     ensures { b.new ≡ with_stand phase line b.old }
 {
     let part = phase_image::stand_part(phase, line);
-    bytes::copy(&part, &mut b[STAND..]);
+    b[STAND..STAND + 7].copy_from_slice(&part);
 }

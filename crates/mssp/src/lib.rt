@@ -1,4 +1,6 @@
 // The MSSP: its registers as bits, its phase, and what it pulls.
+#![tactic(auto)]
+
 ghost use Rattle.std.specs.Prelude.{◌≡◌, cond};
 ghost use Rattle.mssp.specs.Module.{modelled, ten_bits, interrupting, fresh, setup};
 ghost use Rattle.mssp.specs.Phases.{slot_number, slot_after, which_number, next_number, phase_number, bits_of, phase_mark, phase_which, is_held_for_add, is_sending, has_bits, eight_bits};
@@ -7,7 +9,7 @@ ghost use Rattle.mssp.specs.Drivers.{scl_pulled, sda_pulled};
 use wire::{Bits, Line, Remembered};
 
 // What the registers hold and no edge of the wire changes. SMP, CKE, SDAHT and SBCDE are stored without effect.
-#[derive(Drop)]
+#[derive(Clone, Copy)]
 pub struct Config {
     pub smp: bool,
     pub cke: bool,
@@ -31,7 +33,7 @@ pub struct Config {
 }
 
 // What edges of the wire change: BUF, the flags, and the full match, which no register shows.
-#[derive(Drop)]
+#[derive(Clone, Copy)]
 pub struct Live {
     pub s: bool,
     pub p: bool,
@@ -49,7 +51,7 @@ pub struct Live {
 }
 
 // What a slot answers to its byte. There is no fourth: a byte that was refused is not acknowledged, whatever ACKDT says.
-#[derive(Drop)]
+#[derive(Clone, Copy)]
 pub enum SlotCase {
     Pulls,
     // BF or SSPOV stood at the intake
@@ -66,7 +68,7 @@ pub const REFUSES: u8 = 2;
 pub const DECLINES: u8 = 3;
 
 // Which byte a hold before acknowledge or a slot belongs to. STAT cannot tell.
-#[derive(Drop)]
+#[derive(Clone, Copy)]
 pub enum Which {
     // a seven-bit address or a data byte
     Other,
@@ -86,7 +88,7 @@ pub const LOW: u8 = 2;
 pub const HIGH_TO_SEND: u8 = 3;
 
 // What follows when ADD is written in the hold for it.
-#[derive(Drop)]
+#[derive(Clone, Copy)]
 pub enum Next {
     NextQuiet,
     NextLow,
@@ -101,7 +103,7 @@ pub const NEXT_LOW: u8 = 1;
 pub const NEXT_DATA: u8 = 2;
 
 // Where the module stands in a message, with what that place needs.
-#[derive(Drop)]
+#[derive(Clone, Copy)]
 pub enum Phase {
     Quiet,
     // the bits so far; of a low byte or of a first one
@@ -138,7 +140,7 @@ pub const MASTER_ACKNOWLEDGE: u8 = 7;
 
 pub const HELD_FOR_ADD: u8 = 8;
 
-#[derive(Drop)]
+#[derive(Clone, Copy)]
 pub struct Module {
     pub config: Config,
     pub live: Live,
@@ -147,7 +149,7 @@ pub struct Module {
 }
 
 // What of a module a level meets first: whether it reads edges, ACKTIM, which a ninth rise ends, and where it stands.
-#[derive(Drop)]
+#[derive(Clone, Copy)]
 pub struct Stand {
     pub enabled: bool,
     pub acktim: bool,

@@ -1,4 +1,6 @@
 // Where a module stands, as seven bytes: the phase with its parts, the line, and which byte it is about; and the way back.
+#![tactic(auto)]
+
 ghost use Rattle.std.specs.Prelude.{◌≡◌};
 ghost use Rattle.phase_image.specs.PhasePart.{slot_from, which_from, next_from, phase_from, wire_byte, wire_from, line_from, stand_part, is_stand};
 

@@ -1,4 +1,6 @@
 // The plain device, a memory with a pointer, fed with what the plain reader of the wire hears.
+#![tactic(auto)]
+
 ghost use Rattle.std.specs.Prelude.{◌≡◌, false};
 ghost use Rattle.wire.specs.Byte.{bit};
 ghost use Rattle.memory.specs.Memory.{put};
@@ -8,14 +10,14 @@ use reader::{Heard, Place};
 use wire::Bits;
 
 // What the device is in the middle of: nothing; a write, its pointer due or not; a read, with the byte laid out.
-#[derive(Drop)]
+#[derive(Clone, Copy)]
 pub enum Turn {
     Off,
     Writing(bool),
     Reading(u8),
 }
 
-#[derive(Drop)]
+#[derive(Clone, Copy)]
 pub struct Device {
     pub n: u16,
     pub pointer: u16,

@@ -1,11 +1,13 @@
 // The plain reader, which sees the wire and nothing else.
+#![tactic(auto)]
+
 ghost use Rattle.std.specs.Prelude.{◌≡◌};
 ghost use Rattle.reader.specs.Reader.{fall_place, rise_place, place_after, fall_heard, heard_at, reader_after};
 
 use wire::{Bits, Edge, Line};
 
 // The level of a ninth clock, once its rise has come.
-#[derive(Drop)]
+#[derive(Clone, Copy)]
 pub enum Ninth {
     Waiting,
     Got(bool),
@@ -13,7 +15,7 @@ pub enum Ninth {
 
 // Where the reader is: outside every message; in the bits of a byte, the first after the Start or a later one; in its
 // ninth clock, with the byte.
-#[derive(Drop)]
+#[derive(Clone, Copy)]
 pub enum Place {
     Idle,
     Within(bool, Bits),
@@ -21,7 +23,7 @@ pub enum Place {
 }
 
 // What the reader tells of an edge. A byte, the first or a later one, comes at its ninth fall, with the ninth level.
-#[derive(Drop)]
+#[derive(Clone, Copy)]
 pub enum Heard {
     Silence,
     Started,
@@ -29,7 +31,7 @@ pub enum Heard {
     Byte(bool, u8, bool),
 }
 
-#[derive(Drop)]
+#[derive(Clone, Copy)]
 pub struct Reader {
     pub line: Line,
     pub place: Place,

@@ -1,8 +1,10 @@
 // Why a call is refused, and what an accepted one answers: enums inside, the paper's numbers at the door.
+#![tactic(auto)]
+
 ghost use Rattle.std.specs.Prelude.{◌≡◌, cond};
 ghost use Rattle.refusals.specs.Numbers.{number_of, accepted};
 
-#[derive(Drop)]
+#[derive(Clone, Copy)]
 pub enum Refusal {
     NoState,
     NoRegister,
@@ -16,7 +18,7 @@ pub enum Refusal {
 }
 
 // What a call answers: a value (0 where it has none), or why it was refused.
-#[derive(Drop)]
+#[derive(Clone, Copy)]
 pub enum Verdict {
     Done(u8),
     Refused(Refusal),

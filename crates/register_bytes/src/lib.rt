@@ -1,4 +1,6 @@
 // STAT, CON1, CON2 and CON3 as they read: which bit stands where.
+#![tactic(auto)]
+
 ghost use Rattle.std.specs.Prelude.{◌≡◌};
 ghost use Rattle.register_bytes.specs.Bytes.{byte_of, stat_of, con1_of, sspm_of, con2_bits, con2_of, con3_bits, con3_of, stat_held, con1_held, con2_held, con3_held, are_held};
 

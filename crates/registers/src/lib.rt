@@ -1,11 +1,13 @@
 // The eight registers by number: what a read gives and changes, and when it is refused.
+#![tactic(auto)]
+
 ghost use Rattle.std.specs.Prelude.{◌≡◌};
 ghost use Rattle.registers.specs.Values.{register_of, held_by, read_verdict, after_read, read_of};
 
 use mssp::{Config, Live, Module};
 use refusals::{Refusal, Verdict};
 
-#[derive(Drop)]
+#[derive(Clone, Copy)]
 pub enum Register {
     Buf,
     Stat,
@@ -20,7 +22,7 @@ pub enum Register {
 }
 
 // What an access answers, and the module after it: after a refusal the one that was given.
-#[derive(Drop)]
+#[derive(Clone, Copy)]
 pub struct Access {
     pub verdict: Verdict,
     pub mssp: Module,

@@ -1,5 +1,7 @@
 // Samples one after the other, over the module alone: a stretch, then the sample that a rule has to see. A handler adds to it
 // what it does between samples.
+#![tactic(auto)]
+
 ghost use Rattle.std.specs.Prelude.{◌≡◌};
 ghost use Rattle.samples.specs.Samples.{moved_on, passed_over, sample_at, fed_of};
 
@@ -7,7 +9,7 @@ use mssp::Module;
 use stretch::Stretch;
 
 // The module after the samples, and how many they were.
-#[derive(Drop)]
+#[derive(Clone, Copy)]
 pub struct Fed {
     pub mssp: Module,
     pub length: usize,

@@ -1,4 +1,6 @@
 // From levels to bytes: one function for each rule of the bus, and the sample that runs them.
+#![tactic(auto)]
+
 ghost use Rattle.std.specs.Prelude.{◌≡◌, true};
 ghost use Rattle.mssp.specs.Module.{is_ten_bit};
 ghost use Rattle.sampling.specs.Rules.{started, stopped, intake, address_if, high_if, first_if, low_if, address_byte, address_fall, data_byte, data_fall, followed, awaits_add, pull_ended, fail_ended, slot_ended, bit_sent, answered, fallen, data_risen, risen, edge_step, seen, sampled};
@@ -8,7 +10,7 @@ use mssp::{Config, Live, Module, Next, Phase, SlotCase, Which};
 use wire::{Bits, Edge};
 
 // What an edge leaves: the live bits and the phase.
-#[derive(Drop)]
+#[derive(Clone, Copy)]
 pub struct Moved {
     pub live: Live,
     pub phase: Phase,

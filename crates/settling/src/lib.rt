@@ -1,5 +1,7 @@
 // What every call on a state's bytes comes to, whatever kind of state they are an image of: an answer, and the next state's
 // image written where the call is done.
+#![tactic(auto)]
+
 ghost use Rattle.std.specs.Prelude.{◌≡◌};
 ghost use Rattle.refusals.specs.declared.Refusal.TheVariants.{NoState};
 ghost use Rattle.settling.specs.Outcome.{outcome, done as doneWith, refused, image_over, settled};
@@ -8,7 +10,7 @@ use refusals::{Refusal, Verdict};
 
 // The refusal's number, 0 for none; the byte that a read gives, else 0; beside refusal 4 of a run the first bad item, else 0.
 #[repr(C)]
-#[derive(Drop)]
+#[derive(Clone, Copy)]
 pub struct Answer {
     pub refusal: u32,
     pub value: u32,
@@ -47,7 +49,7 @@ fn lay_over(state: &mut [u8], image: &[u8])
     ensures { state.new ≡ image_over image.now state.old }
 {
     if state.len() == image.len() {
-        bytes::copy(image, state);
+        state.copy_from_slice(image);
     }
 }
 

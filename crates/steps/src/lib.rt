@@ -1,11 +1,13 @@
 // One item, one step: what a sample, a handler call, a read and a write do to module, handler and window, and what they answer.
+#![tactic(auto)]
+
 ghost use Rattle.std.specs.Prelude.{◌≡◌};
 ghost use Rattle.steps.specs.Step.{stepped, step_of};
 
 use firmware::State;
 use refusals::{Refusal, Verdict};
 
-#[derive(Drop)]
+#[derive(Clone, Copy)]
 pub enum Item {
     // what everybody else drives, SCL and SDA
     Sample(bool, bool),
@@ -20,7 +22,7 @@ pub enum Item {
 }
 
 // What a step answers, and the state after it.
-#[derive(Drop)]
+#[derive(Clone, Copy)]
 pub struct Answered {
     pub verdict: Verdict,
     pub state: State,

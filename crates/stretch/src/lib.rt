@@ -1,5 +1,7 @@
 // A stretch: samples that move nothing but the bits so far and the wire remembered. A run takes them in small loops and
 // leaves every other sample to the rules.
+#![tactic(auto)]
+
 ghost use Rattle.std.specs.Prelude.{◌≡◌, [], ◌∷◌};
 ghost use Rattle.mssp.specs.Module.{stand_of};
 ghost use Rattle.stretch.specs.Seen.{line_of, seen_on, ends, taken_at, place_seen};
@@ -9,7 +11,7 @@ use mssp::{Module, Phase, Stand};
 use wire::{Bits, Line, Remembered};
 
 // The wire as it was last seen, and the mark of a Start not yet followed by a low SCL.
-#[derive(Drop)]
+#[derive(Clone, Copy)]
 pub struct Seen {
     pub scl: bool,
     pub sda: bool,
@@ -17,7 +19,7 @@ pub struct Seen {
 }
 
 // After a stretch of an address or of data: the bits so far.
-#[derive(Drop)]
+#[derive(Clone, Copy)]
 pub struct Taken {
     pub bits: Bits,
     pub wire: Seen,
@@ -25,7 +27,7 @@ pub struct Taken {
 }
 
 // After a stretch of a byte that is sent: its place.
-#[derive(Drop)]
+#[derive(Clone, Copy)]
 pub struct Sent {
     pub place: u8,
     pub wire: Seen,
@@ -33,14 +35,14 @@ pub struct Sent {
 }
 
 // After a stretch of any other phase.
-#[derive(Drop)]
+#[derive(Clone, Copy)]
 pub struct Rested {
     pub wire: Seen,
     pub length: usize,
 }
 
 // Where a stretch leaves the module, and of how many items it is.
-#[derive(Drop)]
+#[derive(Clone, Copy)]
 pub struct Stretch {
     pub phase: Phase,
     pub wire: Seen,

@@ -1,4 +1,6 @@
 // The report's text: bytes, numbers and lines, put into a lent buffer from a place on.
+#![tactic(auto)]
+
 ghost use Rattle.std.specs.Prelude.{◌≡◌, ◌+◌, ◌<◌, ◌^◌, [], ◌∷◌, length};
 ghost use Rattle.text.specs.Text.{hex_digit, decimal, condition_row, first_letter, byte_row, row_line, event_line, numbered};
 ghost use Rattle.text.specs.Page.{page, penned};
@@ -7,7 +9,7 @@ use address::Hit;
 use reader::Heard;
 
 // What an event's line says between its two numbers.
-#[derive(Drop)]
+#[derive(Clone, Copy)]
 pub struct Row {
     pub event: u8,
     pub high: u8,

@@ -1,4 +1,6 @@
 // A run: the items of a trace one after the other, 0 to 3 a sample, 4 a handler call.
+#![tactic(auto)]
+
 ghost use Rattle.std.specs.Prelude.{◌≡◌, ◌+◌, ◌≤◌, length};
 ghost use Rattle.firmware.specs.Handler.{served, state_of};
 ghost use Rattle.firmware.specs.Window.{window_outcome};
@@ -10,7 +12,7 @@ use mssp::Module;
 use refusals::{Refusal, Verdict};
 
 // What a run answers: the verdict, beside refusal 4 the first bad item's number, and the state after it.
-#[derive(Drop)]
+#[derive(Clone, Copy)]
 pub struct Ran {
     pub verdict: Verdict,
     pub item: u64,
@@ -56,7 +58,7 @@ fn run_part(s: State, buffer: &mut [u8], start: usize, n: usize, items: &[u8]) -
 }
 
 // What a look at the window and at the items tells: refused with 5, then with 4 and the first bad item's number, or not.
-#[derive(Drop)]
+#[derive(Clone, Copy)]
 pub struct Judged {
     pub verdict: Verdict,
     pub item: u64,

@@ -1,4 +1,6 @@
 // Which modules there are, clause by clause.
+#![tactic(auto)]
+
 ghost use Rattle.std.specs.Prelude.{◌≡◌};
 ghost use Rattle.mssp.specs.Phases.{is_quiet, of_ten_bits};
 ghost use Rattle.mssp.specs.Valid.{bits_fit, parts_fit, address_begins, valid_by};

@@ -1,4 +1,6 @@
 // What the scope draws of a state: numbers only, laid out for C.
+#![tactic(auto)]
+
 ghost use Rattle.std.specs.Prelude.{◌≡◌};
 ghost use Rattle.mssp.specs.Phases.{is_refused};
 ghost use Rattle.view.specs.View.{view_of, no_view};
@@ -8,7 +10,7 @@ use mssp::Phase;
 
 // What the scope draws of a state. Refused, all other fields are 0.
 #[repr(C)]
-#[derive(Drop)]
+#[derive(Clone, Copy)]
 pub struct View {
     pub refusal: u32,
     // the eight registers, read without effect

@@ -1,4 +1,6 @@
 // The wire watched while items are played: what an item leaves of the world, and what the plain reader hears at it.
+#![tactic(auto)]
+
 ghost use Rattle.std.specs.Prelude.{◌≡◌};
 ghost use Rattle.watch.specs.Watch.{scene, level_seen, item_seen, hit_heard, scene_after, with_general_call};
 
@@ -9,21 +11,21 @@ use reader::{Heard, Reader};
 use steps::Item;
 
 // Module and handler, and the plain reader of their wire.
-#[derive(Drop)]
+#[derive(Clone, Copy)]
 pub struct World {
     pub state: State,
     pub reader: Reader,
 }
 
 // The reader after an item, and what it heard at it.
-#[derive(Drop)]
+#[derive(Clone, Copy)]
 pub struct Listened {
     pub reader: Reader,
     pub heard: Heard,
 }
 
 // The world after an item, what the reader heard at it, and which address a byte heard hits.
-#[derive(Drop)]
+#[derive(Clone, Copy)]
 pub struct Watched {
     pub world: World,
     pub heard: Heard,

@@ -1,24 +1,26 @@
 // The wire: what is remembered of it, which edge a new level makes, and the bits of a byte so far.
+#![tactic(auto)]
+
 ghost use Rattle.std.specs.Prelude.{◌≡◌};
 ghost use Rattle.wire.specs.Wire.{condition, edge_of, line_after, is_start, is_stop, scl_high};
 ghost use Rattle.wire.specs.Byte.{none, pushed, whole, zero_at};
 
 // The wire as the last sample left it: SCL, then SDA.
-#[derive(Drop)]
+#[derive(Clone, Copy)]
 pub enum Remembered {
     Nothing,
     Wire(bool, bool),
 }
 
 // The remembered wire, and the mark of a Start not yet followed by a low SCL.
-#[derive(Drop)]
+#[derive(Clone, Copy)]
 pub struct Line {
     pub remembered: Remembered,
     pub mark: bool,
 }
 
 // What a new level is to whoever remembers the one before. A rise carries the new SDA.
-#[derive(Drop)]
+#[derive(Clone, Copy)]
 pub enum Edge {
     Still,
     Start,
@@ -28,7 +30,7 @@ pub enum Edge {
 }
 
 // The bits of a byte so far, most significant first: how many, and as a number.
-#[derive(Drop)]
+#[derive(Clone, Copy)]
 pub struct Bits {
     pub count: u8,
     pub value: u8,

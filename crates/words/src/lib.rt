@@ -1,5 +1,7 @@
 // A word of a drawing: what is seen after an item of a wire record, in 64 bits. An item is drawn: where the module holds the
 // clock and the record shows SCL high the handler is called, then the item is a sample, then its word is made.
+#![tactic(auto)]
+
 ghost use Rattle.std.specs.Prelude.{◌≤◌, ◌≡◌};
 ghost use Rattle.firmware.specs.Handler.{served};
 ghost use Rattle.words.specs.Words.{is_called, storing, met_if, edge_at, in_conflict, most_standing, standing_by, standing_of, lines_by, lines_of, events_of, word_by, drawn, drawn_item};
@@ -9,7 +11,7 @@ use mssp::{Module, Phase};
 use wire::{Edge, Remembered};
 
 // After an item: the state, the part of its word that stands while nothing but bits and wire move, and the whole word.
-#[derive(Drop)]
+#[derive(Clone, Copy)]
 pub struct Drawn {
     pub state: State,
     pub standing: u64,

@@ -1,4 +1,6 @@
 // What a write to a register takes, what it does beside that, and which writes are refused.
+#![tactic(auto)]
+
 ghost use Rattle.std.specs.Prelude.{◌≡◌, cond};
 ghost use Rattle.refusals.specs.declared.Refusal.TheVariants.{MaskedTenBits};
 ghost use Rattle.refusals.specs.declared.Verdict.TheVariants.{Done, Refused};
