@@ -1,0 +1,11 @@
+use Prim.Native.Nat.{ℕ, ◌-◌}
+use lib.Dec.{eqb}
+use lib.ListN.{length}
+use Rattle.items.specs.First.{Reached}
+use Rattle.items.proofs.past_same.Given as goal
+
+abbrev pub invariant-loop-at : goal.invariant-loop-at
+invariant-loop-at l = Reached (λ (x : ℕ). eqb x l.item) l.items l.from l.at
+
+abbrev pub decreases-loop-at : goal.decreases-loop-at
+decreases-loop-at l = length l.items - l.at
