@@ -1,7 +1,0 @@
--- `sampling::start` meets its contract.
-use borrow.Author.Rules.{rules}
-use Rattle.sampling.proofs.start.Statement.{statement}
-use Rattle.sampling.proofs.start.Tie as tie
-
-pub start_spec : {M : Type 1} → statement M
-start_spec = tie.close (tie.spec (λ c κs. search rules) (λ c. simp c.interrupts.ensures))

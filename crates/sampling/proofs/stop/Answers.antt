@@ -1,0 +1,4 @@
+use Rattle.sampling.proofs.stop.Goals as goal
+
+pub returns : goal.returns
+returns c = simp c.interrupts.ensures
