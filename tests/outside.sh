@@ -18,8 +18,8 @@ export ASAN_OPTIONS=detect_leaks=0 # a leak check takes seconds a process on som
 archive=${ARCHIVE:-target/staticlib/libdoor.a}
 report=${REPORT:-target/bin/report}
 run_report=$RUN_PROGRAM # the report program wants a C library: elsewhere than on x86-64 the cross compiler's
-[ -f "$archive" ] || try archive rt staticlib door
-[ -f "$report" ] || try report_program rt check report
+[ -f "$archive" ] || try archive build_archive
+[ -f "$report" ] || try report_program build_report
 for wanted in "python3 python3" "gcc gcc" "clang clang" "sigrok-cli sigrok-cli"; do
     need $wanted || try "needed_${wanted%% *}" false
 done

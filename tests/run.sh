@@ -25,7 +25,7 @@ archive=target/staticlib/libdoor.a
 for wanted in pkg-config python3 sigrok-cli $([ -z "$RUN" ] && echo valgrind || echo gcc mmdebstrap); do
     need "$wanted" "$wanted"
 done
-[ -x target/bin/report ] || try report_program rt check report
+[ -x target/bin/report ] || try report_program build_report
 
 # ---- Tests that go through the door, once with the archive behind it and once with the second program ----
 
@@ -167,12 +167,16 @@ as_a_whole() {
 
 # ---- All of them, the longest first: while the archive is built, those without it; what is timed, by itself ----
 
-# The archive, and the state of its crate that it was built from.
+# The archive, and the state of the crates that it was built from.
+state() {
+    rt version && find $(tools/crates.sh below door_c | sed 's,^,crates/,') -path '*/out' -prune -o -path '*/must-fail' -prune -o \
+        -type f -exec sha256sum {} + | sort -k 2
+}
 make_archive() {
-    rt staticlib door && cp target/stamp/door "$out/built_from"
+    state >"$out/built_now" && build_archive && mv "$out/built_now" "$out/built_from"
 }
 up_to_date() {
-    [ -n "$quick" ] && [ -f "$archive" ] && cmp -s target/stamp/door "$out/built_from"
+    [ -n "$quick" ] && [ -f "$archive" ] && state | cmp -s - "$out/built_from"
 }
 whole() { # whole COMMAND..: not among the quick tests
     [ -n "$quick" ] || "$@"

@@ -14,6 +14,7 @@ awk -v way="$way" -v names="$*" '
 { sub(/#.*/, "") }
 /:/ {
     name = substr($0, 1, index($0, ":") - 1)
+    sub(/ .*/, "", name) # behind it may stand what kind of crate it is
     order[++count] = name
     uses[name] = " " substr($0, index($0, ":") + 1) " "
 }

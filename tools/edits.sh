@@ -7,9 +7,9 @@
 # In a crate without code WHO is the theorem that refuses it.
 #
 #     edits.sh contracts            every public contract is named by at least two; public is what a crate's lib.rt offers
-#     edits.sh refused [CRATE..]    once they have been tried: tells of each wrong program and definition what refused it. That
-#                                   proof must have failed by itself: a fact no longer holds. It has not where it only rests on
-#                                   another proof that failed, nor where it no longer fits the code or the definition
+#     edits.sh refused [CRATE..]    tries them, by tools/refused.py, and tells of each wrong program and definition what refused
+#                                   it. That proof must have failed by itself: a fact no longer holds. It has not where it only
+#                                   rests on another proof that failed, nor where it no longer fits the code or the definition
 set -u
 cd "$(dirname "$0")/.." || exit 2
 checked=0
@@ -37,64 +37,14 @@ contracts() { # contracts CRATE
     done
 }
 
-# A log with each error on one line: what it says further stands set in on the lines below it. Advice on how a type is printed
-# is left out.
-in_one_line() { # in_one_line LOG
-    awk '/is not in scope here, so what is shown/ { next } /^[[:space:]]/ { printf " %s", $0; next } { printf "%s%s", (NR > 1 ? "\n" : ""), $0 } END { print "" }' "$1"
-}
-
-# The errors in a log that stand in the proof of a function, or at a law.
-errors_at() { # errors_at CRATE PLACE LOG
-    if grep -qE "^ *(pub )?(extern \"C\" )?fn $2\(" "crates/$1"/src/*.rt; then
-        in_one_line "$3" | grep -E "/proofs/([a-z_]+/)?\+?$2/[^ ]*: error: "
-    else
-        in_one_line "$3" | grep -E "/(specs|proofs)/[^ ]*: error: \`$2\`: "
-    fi
-}
-
-# What an error says where a proof only rests on another that failed.
-follows='was not admitted'
-# What it says where a proof names a part that the code or the definition has not, takes too many or too few for one, has an
-# invariant or a measure of other variables than the loop's, or searches where, after a call was left out, a result is asked for.
-unfit='can be named from here|binders, but its type has room|error: `(Inv|μ)-loop|is not in scope|not a (field|constructor)'
-unfit="$unfit|has no field|expected type \`tie.Need-|is not a structural call|is for an impossible case|explicit arguments more than"
-unfit="$unfit|no proof of \`denote.Triple.Entry.Res "
-
-# Whether a proof failed by itself, by the log of an edit.
-failed_by_itself() { # failed_by_itself CRATE PLACE LOG
-    grep -qE "^fn $1::([a-z_]+::)?$2: no proof: .* does not close" "$3" && return
-    errors_at "$1" "$2" "$3" | grep -vE "$follows" | grep -q . &&
-        ! errors_at "$1" "$2" "$3" | grep -qE "$unfit"
-}
-
-# The wrong programs and definitions of a crate.
-refused() { # refused CRATE
-    for edit in "crates/$1"/must-fail/*.edit; do
-        [ -f "$edit" ] || continue
-        label=$(basename "$edit" .edit)
-        while IFS= read -r wrong; do
-            for place in $(echo "${wrong%%: *}" | sed 's/.* at //; s/,/ /g'); do
-                failed_by_itself "$1" "$place" "target/must-fail/$1/$label/.log"
-                status=$?
-                [ "$status" -ne 0 ] || echo "refused by $1::$place ($label): ${wrong#*: }"
-                judged "$status" "$1::$place refused by itself ($label): ${wrong#*: }"
-            done
-        done <<END
-$(wrongs "$edit")
-END
-    done
-}
-
 case ${1:-} in
-contracts) what="public contracts named by two wrong programs or definitions" ;;
-refused) what="wrong programs and definitions refused by a proof that failed by itself" ;;
+contracts) shift ;;
+refused) shift; exec python3 tools/refused.py "$@" ;;
 *) echo "usage: edits.sh contracts | edits.sh refused [CRATE..]" >&2; exit 2 ;;
 esac
-command=$1
-shift
 [ $# -gt 0 ] || set -- $(ls crates)
 for crate in "$@"; do
-    "$command" "$crate"
+    contracts "$crate"
 done
-echo "$what: $((checked - missing)) of $checked"
+echo "public contracts named by two wrong programs or definitions: $((checked - missing)) of $checked"
 [ "$checked" -gt 0 ] && [ "$missing" -eq 0 ]

@@ -6,7 +6,7 @@ laws='Laws|Theorems|Edges|Kept|Readback|Bits|Simulation|Demand|Before|Cut|Extent
 lines() { cat /dev/null "$@" 2>/dev/null | grep -cv '^[[:space:]]*$'; }
 all_code=0 all_proof=0
 printf '%-14s %6s %12s %6s\n' crate code definitions proof
-for crate in $(sed -n 's/^\([a-z0-9_]*\):.*/\1/p' crates.txt); do
+for crate in $(sed -n 's/^\([a-z0-9_]*\)[^:#]*:.*/\1/p' crates.txt); do
     code=$(lines crates/"$crate"/src/*.rt)
     defined=$(lines $(ls crates/"$crate"/specs/*.antt 2>/dev/null | grep -vE "/($laws)\.antt$"))
     proof=$(lines $(ls crates/"$crate"/specs/*.antt 2>/dev/null | grep -E "/($laws)\.antt$") $(find crates/"$crate"/proofs -name '*.antt' 2>/dev/null))

@@ -13,7 +13,7 @@ stage=$folder/stage
 rm -rf "$folder"
 mkdir -p "$stage"
 tools/install.sh "$stage"
-[ -x target/bin/report ] || rt check report
+[ -x target/bin/report ] || build_report
 name=wherryoar-$(sed -n 's/^Version: //p' "$stage/lib/pkgconfig/wherryoar.pc")-x86_64
 
 # The command: a script, its modules, and a C program that runs on every x86-64 machine since it needs no library there.

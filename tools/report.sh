@@ -44,15 +44,16 @@ trap 'rm -rf "$scratch"' EXIT
 
 # The program is built from proved crates alone. What is proved stays so, and an interrupted build goes on where it was.
 build() {
-    local crates line status done=0
+    local crates line crate status done=0
     crates=$(tools/crates.sh below report | wc -l)
     cat <<END
 Building the report program, once: the $crates crates that it is made of are proved first, which takes some minutes.
 That is why its lines can be relied on: they are proved to be what the rules say for every input, not for those tried.
 If you interrupt it, the next run goes on where this one was.
 END
-    rt check report 2>&1 | tee "$scratch/log" | while IFS= read -r line; do
-        [[ $line =~ ^rt:\ ([a-z0-9_]+\ proved.*) ]] && echo "crate $((++done)) of $crates: ${BASH_REMATCH[1]}"
+    build_report 2>&1 >/dev/null | tee "$scratch/log" | while IFS= read -r line; do
+        [[ $line =~ ^crate\ ([a-z0-9_]+): ]] && crate=${BASH_REMATCH[1]}
+        [[ $line == "logic=proved "* ]] && echo "crate $((++done)) of $crates: $crate proved"
     done
     status=${PIPESTATUS[0]}
     [ "$status" -eq 0 ] || tail -n 40 "$scratch/log"

@@ -1,0 +1,185 @@
+#!/usr/bin/env python3
+"""Tries the must-fail edits and tells of each wrong program and definition in them what refused it.
+
+usage: refused.py [--goals] [CRATE..]     at the top of the repository; RT_JOBS edits at once, or else one a processor
+
+rt tries an edit as a whole, says in one line whether it is refused, and keeps nothing of what the check said. So each edit is
+checked here once more, by rt check in a copy of the repository. The copies lie below a folder for temporary files, one of this
+checkout's own (REFUSED names another), since rt ci refuses a copy inside the repository. What a check said is kept in the user's
+cache, by the checksums of all that it read: an edit is not tried again while the toolchain, the edit, and the texts of its crate
+and of those below it are the same. REFUSED_LOGS names another folder for that; an empty one tries all.
+
+Each wrong program begins with '# WHO: what is wrong' or '# WHO at PLACE: what is wrong'. It is refused by itself where
+- the log has 'fn CRATE::PLACE: no proof: .. did not prove `GOAL`' (or 'does not close'): a goal of the function is left;
+  (where PLACE names nothing any more, WHO is asked)
+- or an error stands in proofs/PLACE/ or names PLACE in specs/ or proofs/, and none of PLACE's errors says that a proof names what
+  is no longer there (a name, a field, a place).
+It is not where it only rests on another: 'it calls `..`, which is not proved', 'declarations that depend on `..`'.
+With --goals each line goes on with the goals that are left, or with the error.
+"""
+import concurrent.futures
+import glob
+import hashlib
+import os
+import queue
+import re
+import shutil
+import subprocess
+import sys
+import tempfile
+
+COPIES = os.environ.get("REFUSED") or os.path.join(tempfile.gettempdir(), "refused-" + hashlib.sha256(os.getcwd().encode()).hexdigest()[:12])
+LOGS = os.environ.get("REFUSED_LOGS") or os.path.join(os.environ.get("XDG_CACHE_HOME") or os.path.expanduser("~/.cache"), "wherryoar", "refused")
+AT_ONCE = int(os.environ.get("RT_JOBS") or os.cpu_count())
+UNFIT = re.compile(r"is not in scope|has no field|has no `|is not a (field|constructor)|can be named|binders, but its type has room|explicit arguments more than|is for an impossible case|was not admitted")
+PARTS = ("src", "specs", "proofs")
+
+
+def read(path):
+    with open(path, encoding="utf-8") as it:
+        return it.read()
+
+
+def write(path, text):
+    os.makedirs(os.path.dirname(path), exist_ok=True)
+    with open(path, "w", encoding="utf-8") as it:
+        it.write(text)
+
+
+def crates():
+    lines = [line for line in read("crates.txt").split("\n") if line.strip() and not line.startswith("#")]
+    return {line.partition(":")[0].split()[0]: line.partition(":")[2].split() for line in lines}
+
+
+def below(name, listed, found=None):
+    """The crate and those that it rests on, lowest first."""
+    found = found if found is not None else []
+    if name in listed and name not in found:
+        for dep in listed[name]:
+            below(dep, listed, found)
+        found.append(name)
+    return found
+
+
+def texts(crate):
+    return sorted(it for part in PARTS for it in glob.glob(f"crates/{crate}/{part}/**/*", recursive=True) if os.path.isfile(it))
+
+
+def edits(crate):
+    return sorted(glob.glob(f"crates/{crate}/must-fail/*.edit"))
+
+
+def apply(edit, folder):
+    """Applies the pairs of an edit to the crate in this folder; returns the texts as they were, and whether each old: text stood once."""
+    path, old, were, fits = "", "", {}, True
+    for line in read(edit).split("\n"):
+        if line.startswith("file: "):
+            path = f"{folder}/{line[len('file: '):].strip()}"
+        elif line.startswith("old: "):
+            old = line[len("old: "):]
+        elif line.startswith("new:"):
+            new = line[len("new:"):]
+            text = read(path)
+            were.setdefault(path, text)
+            if text.count(old) != 1:
+                fits = False
+                print(f"NOT SO: {edit}: an old: text stands {text.count(old)} times: {old}")
+            write(path, text.replace(old, new[1:] if new.startswith(" ") else new))
+    return were, fits
+
+
+def check(crate, edit, copies):
+    """What a check of the crate with the edit says. It is made in a copy, since crates above would see the wrong crate."""
+    copy = copies.get()
+    were, fits = apply(edit, f"{copy}/crates/{crate}")
+    said = ""
+    if fits:
+        said = subprocess.run(["rt", "check", "--jobs", "1"], cwd=f"{copy}/crates/{crate}", stdout=subprocess.PIPE, stderr=subprocess.STDOUT, stdin=subprocess.DEVNULL).stdout.decode(errors="replace")
+    for path, text in were.items():
+        write(path, text)
+    copies.put(copy)
+    return said
+
+
+def log_of(crate, edit, listed, toolchain, copies):
+    """What the check of an edit said, now or before."""
+    made = hashlib.sha256(toolchain)
+    for path in [edit] + [it for name in below(crate, listed) for it in texts(name)]:
+        made.update(f"{path}\n{read(path)}\n".encode())
+    kept = f"{LOGS}/{made.hexdigest()}.log"
+    if os.path.exists(kept):
+        return read(kept)
+    said = check(crate, edit, copies)
+    # (one that came to no verdict is tried again the next time)
+    if re.search(r"^logic=not-proved", said, re.M):
+        write(kept, said)
+    return said
+
+
+def by_itself(crate, place, log):
+    """Returns what shows that a proof failed by itself, or ''."""
+    name = re.escape(place)
+    left = re.search(rf"^fn {crate}::(?:\w+::)*{name}: no proof: .*(?:did not prove|does not close).*$", log, re.M)
+    if left:
+        return left.group()
+    own = re.findall(rf"^\./proofs/(?:\w+/)*\+?{name}/\S+: error: .*$|^\./(?:specs|proofs)/\S+: error: `{name}`: .*$", log, re.M)
+    return own[0] if own and not any(UNFIT.search(it) for it in own) else ""
+
+
+def goals(shown):
+    """The goals, or the error, that a refusal rests on."""
+    left = re.findall(r"`([^`]+)`", re.sub(r"`search` did not prove|`search`", "", shown.partition("no proof: ")[2]))
+    error = re.match(r"\./(\S+?):\d+:\d+: error: (?:`([^`]+)`)?", shown)
+    return ", ".join(left) or (f"{error.group(2)} in {error.group(1)}" if error and error.group(2) else shown[:200])
+
+
+def stands(crate, place):
+    """Whether a function, a law or a theorem of the crate has this name. Where a proof was written anew its steps may have lost theirs."""
+    name = re.escape(place)
+    return any(re.search(rf"\bfn {name}\b|^\s*(?:pub )?{name}(?: \{{[^}}]*\}})* :(?: |$)", read(it), re.M) for it in texts(crate) if not re.search(r"/proofs/[^/]*/", it))
+
+
+def make_copies(listed):
+    copies = queue.Queue()
+    for number in range(AT_ONCE):
+        copy = f"{COPIES}/{number}"
+        for name in listed:
+            os.makedirs(f"{copy}/crates/{name}", exist_ok=True)
+            for part in PARTS:
+                shutil.rmtree(f"{copy}/crates/{name}/{part}", ignore_errors=True)
+                if os.path.isdir(f"crates/{name}/{part}"):
+                    shutil.copytree(f"crates/{name}/{part}", f"{copy}/crates/{name}/{part}")
+        shutil.copy("crates.txt", copy)
+        copies.put(copy)
+    return copies
+
+
+def main():
+    listed = crates()
+    with_goals = "--goals" in sys.argv
+    names = [it for it in sys.argv[1:] if it != "--goals"] or list(listed)
+    wanted = [(name, edit) for name in names for edit in edits(name)]
+    toolchain = subprocess.run(["rt", "version"], stdout=subprocess.PIPE, check=True).stdout
+    copies = make_copies(listed)
+    with concurrent.futures.ThreadPoolExecutor(AT_ONCE) as pool:
+        logs = list(pool.map(lambda it: log_of(*it, listed, toolchain, copies), wanted))
+    checked = missing = 0
+    for (crate, edit), log in zip(wanted, logs):
+        label = os.path.basename(edit)[:-len(".edit")]
+        for line in read(edit).split("\n"):
+            wrong = re.match(r"# ([A-Za-z0-9_, '-]*): (.*)", line)
+            if not wrong:
+                continue
+            who, _, place = wrong.group(1).partition(" at ")
+            for place in [place] if place and stands(crate, place) else re.split(", *", who):
+                shown = by_itself(crate, place, log)
+                checked += 1
+                missing += not shown
+                by = f": {goals(shown)}" if with_goals and shown else ""
+                print(f"{'refused by' if shown else 'NOT SO:'} {crate}::{place} ({label}): {wrong.group(2)}{by}")
+    print(f"wrong programs and definitions refused by a proof that failed by itself: {checked - missing} of {checked}")
+    return 1 if missing or not checked else 0
+
+
+if __name__ == "__main__":
+    sys.exit(main())
