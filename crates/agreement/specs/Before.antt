@@ -58,6 +58,9 @@ run_waits n add bytes j [] ended h w = w
 run_waits n add bytes j (Sample scl sda ∷ items) (sample p) h (unstarted {y = y} {p = stop}) =
     run_waits n add bytes (step n add j (Sample scl sda)) items p h.1 (edge_waits y stop scl sda (edge_of y scl sda) h.0)
 run_waits n add bytes j (Call ∷ items) (call p) h unstarted = run_waits n add bytes (step n add j Call) items p h.1 unstarted
+run_waits n add bytes j (Rattle.steps.specs.declared.Item.TheVariants.Read _ ∷ items) x6 h w = elim x6 [ ]
+run_waits n add bytes j (Rattle.steps.specs.declared.Item.TheVariants.Write _ _ ∷ items) x8 h w = elim x8 [ ]
+run_waits n add bytes j (Rattle.steps.specs.declared.Item.TheVariants.NotAnItem ∷ items) x7 h w = elim x7 [ ]
 
 untouched : {n add : ℕ} {bytes : List ℕ} {j : Joint} → Unstarted n add bytes j → Untouched bytes j
 untouched unstarted = record { no_pull = refl; no_hold = refl; no_interrupt = refl; no_change = refl }

@@ -82,6 +82,9 @@ pub joint_run_kept :
 joint_run_kept n add j [] ended h = h
 joint_run_kept n add j (Sample l d ∷ items) (sample p) h = joint_run_kept n add (step n add j (Sample l d)) items p (samples l d h)
 joint_run_kept n add j (Call ∷ items) (call p) h = joint_run_kept n add (step n add j Call) items p (calls h)
+joint_run_kept n add j (Rattle.steps.specs.declared.Item.TheVariants.Read _ ∷ items) x5 h = elim x5 [ ]
+joint_run_kept n add j (Rattle.steps.specs.declared.Item.TheVariants.Write _ _ ∷ items) x7 h = elim x7 [ ]
+joint_run_kept n add j (Rattle.steps.specs.declared.Item.TheVariants.NotAnItem ∷ items) x6 h = elim x6 [ ]
 
 pub begins : (add : ℕ) (bytes : List ℕ) → Rel (length bytes) add (afresh add bytes)
 begins add bytes = related (setup-answers add) (runs (apart idle)) in_step
