@@ -1,0 +1,8 @@
+use borrow.Author.Tests.{eq-eqb, ne_eqb}
+use Rattle.door.proofs.how_far.Goals as goal
+
+pub returns-then-answer-eq0 : goal.returns-then-answer-eq0
+returns-then-answer-eq0 c = rw (eq-eqb _ _ c.if-answer-eq0.true)
+
+pub returns-else-answer-eq0 : goal.returns-else-answer-eq0
+returns-else-answer-eq0 c = rw (ne_eqb _ _ c.if-answer-eq0.false)
