@@ -64,81 +64,62 @@ pub fn set_up(add: u8, n: u64) -> Made
 }
 
 // SSPIF is cleared.
-fn acknowledge(s: State) -> State
-    ensures { result ≡ acknowledged s }
+fn acknowledge(s: &mut State)
+    ensures { s.new ≡ acknowledged s.old }
 {
-    let mut t = s;
-    t.mssp.live.sspif = false;
-    t
+    s.mssp.live.sspif = false;
 }
 
 // A write address: BUF is read, a pointer is due, the hold ends.
-fn address(s: State) -> State
-    ensures { result ≡ addressed s }
+fn address(s: &mut State)
+    ensures { s.new ≡ addressed s.old }
 {
-    let m = s.mssp;
-    let mut h = s.handler;
-    h.due = true;
-    State {
-        mssp: effects::release(effects::empty(m)),
-        handler: h,
-    }
+    s.mssp = effects::release(effects::empty(s.mssp));
+    s.handler.due = true;
 }
 
 // Sending: after a read address BUF is read first; the byte at the pointer is loaded, and the hold ends.
-fn send(s: State, window: &[u8]) -> State
-    ensures { result ≡ sent s window.now }
+fn send(s: &mut State, window: &[u8])
+    ensures { s.new ≡ sent s.old window.now }
 {
-    let m = s.mssp;
-    let mut h = s.handler;
-    let byte = memory::peek(window, h.pointer);
-    let read = mssp::pick_module(m.live.da, m, effects::empty(m));
-    h.pointer = memory::pointer_on(h.n, h.pointer);
-    State {
-        mssp: effects::release(effects::load(read, byte)),
-        handler: h,
-    }
+    let byte = memory::peek(window, s.handler.pointer);
+    let read = mssp::pick_module(s.mssp.live.da, s.mssp, effects::empty(s.mssp));
+    s.handler.pointer = memory::pointer_on(s.handler.n, s.handler.pointer);
+    s.mssp = effects::release(effects::load(read, byte));
 }
 
 // A data byte: the pointer where one is due, else stored; BUF is read, the hold ends.
-fn take(s: State, window: &mut [u8]) -> State
-    ensures { served result window.new ≡ taken s window.old }
+fn take(s: &mut State, window: &mut [u8])
+    ensures { served s.new window.new ≡ taken s.old window.old }
 {
-    let m = s.mssp;
-    let mut h = s.handler;
-    let byte = m.live.buf;
-    let next = effects::release(effects::empty(m));
-    if h.due {
-        h.pointer = memory::aim(h.n, byte);
+    let byte = s.mssp.live.buf;
+    s.mssp = effects::release(effects::empty(s.mssp));
+    if s.handler.due {
+        s.handler.pointer = memory::aim(s.handler.n, byte);
     } else {
-        memory::store(window, h.pointer, byte);
-        h.pointer = memory::pointer_on(h.n, h.pointer);
+        memory::store(window, s.handler.pointer, byte);
+        s.handler.pointer = memory::pointer_on(s.handler.n, s.handler.pointer);
     }
-    h.due = false;
-    State {
-        mssp: next,
-        handler: h,
-    }
+    s.handler.due = false;
 }
 
 // A call over the window's own bytes.
-pub fn handle(s: State, window: &mut [u8]) -> State
-    ensures { served result window.new ≡ called s window.old }
+pub fn handle(s: &mut State, window: &mut [u8])
+    ensures { served s.new window.new ≡ called s.old window.old }
 {
-    let l = s.mssp.live;
-    if !l.sspif {
-        return s;
+    if !s.mssp.live.sspif {
+        return;
     }
-    let t = acknowledge(s);
-    if l.ckp {
-        return t;
+    acknowledge(s);
+    if s.mssp.live.ckp {
+        return;
     }
-    if l.rw {
-        send(t, window)
-    } else if l.da {
-        take(t, window)
+    if s.mssp.live.rw {
+        send(s, window)
+    } else if s.mssp.live.da {
+        take(s, window)
     } else {
-        address(t)
+        address(s)
     }
 }
 
@@ -154,9 +135,9 @@ pub fn window_fits(long: usize, start: u64, n: u64, wanted: u16) -> bool
 }
 
 // The window is lent on: the handler sees only its n bytes.
-fn handle_in(s: State, buffer: &mut [u8], start: usize, n: usize) -> State
+fn handle_in(s: &mut State, buffer: &mut [u8], start: usize, n: usize)
     requires { start + n ≤ length buffer.old }
-    ensures { served result buffer.new ≡ called_in s buffer.old start n }
+    ensures { served s.new buffer.new ≡ called_in s.old buffer.old start n }
 {
     let end = start + n;
     handle(s, &mut buffer[start..end])
@@ -168,7 +149,8 @@ pub fn call(s: State, buffer: &mut [u8], start: u64, n: u64) -> Called
 {
     let wanted = s.handler.n;
     if window_fits(buffer.len(), start, n, wanted) {
-        let next = handle_in(s, buffer, start as usize, n as usize);
+        let mut next = s;
+        handle_in(&mut next, buffer, start as usize, n as usize);
         Called {
             verdict: Verdict::Done(0),
             state: next,

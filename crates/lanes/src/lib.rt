@@ -130,47 +130,39 @@ fn ahead(m: Module, items: &[u8]) -> Stretch
 }
 
 // All the items: a stretch, then the item that a rule or the handler has to see.
-fn draw(s: State, window: &mut [u8], items: &[u8], lanes: &mut [u64]) -> State
+fn draw(s: &mut State, window: &mut [u8], items: &[u8], lanes: &mut [u64])
     requires { length items.now ≡ length lanes.old }
-    ensures { laned (served result window.new) lanes.new ≡ laned_of (served s window.old) items.now }
+    ensures { laned (served s.new window.new) lanes.new ≡ laned_of (served s.old window.old) items.now }
 {
-    let mut t = s;
-    let mut stands = words::standing(s);
+    let mut stands = words::standing(*s);
     let mut i = 0;
     while i < items.len() {
-        let m = t.mssp;
-        let phase = m.phase;
-        let line = m.line;
-        let remembered = line.remembered;
-        let passed = ahead(m, &items[i..]);
+        let passed = ahead(s.mssp, &items[i..]);
         let end = i + passed.length;
-        let brush = brush_in(phase, wire::scl_high(remembered));
+        let brush = brush_in(s.mssp.phase, wire::scl_high(s.mssp.line.remembered));
         paint(stands, brush, &items[i..end], &mut lanes[i..end]);
-        let next = samples::pass_over(m, passed);
-        t = trace::with_module(t, next);
+        s.mssp = samples::pass_over(s.mssp, passed);
         i = end;
         if i < items.len() {
-            let drawn = words::draw_item(t, window, items[i]);
-            t = drawn.state;
+            let drawn = words::draw_item(s, window, items[i]);
             stands = drawn.standing;
             lanes[i] = drawn.word;
             i += 1;
         }
     }
-    t
 }
 
 // The window is lent on: the drawing sees only its n bytes.
 fn draw_part(
-    s: State,
+    s: &mut State,
     buffer: &mut [u8],
     start: usize,
     n: usize,
     items: &[u8],
     lanes: &mut [u64],
-) -> State
+)
     requires { (start + n ≤ length buffer.old) × (length items.now ≡ length lanes.old) }
-    ensures { laned (served result buffer.new) lanes.new ≡ laned_in s buffer.old start n items.now }
+    ensures { laned (served s.new buffer.new) lanes.new ≡ laned_in s.old buffer.old start n items.now }
 {
     let end = start + n;
     draw(s, &mut buffer[start..end], items, lanes)
@@ -204,8 +196,9 @@ pub fn draw_in(
             state: s,
         };
     }
-    let next = draw_part(
-        s,
+    let mut next = s;
+    draw_part(
+        &mut next,
         buffer,
         start as usize,
         n as usize,

@@ -41,10 +41,14 @@ pub fn step(s: State, window: &mut [u8], item: Item) -> Answered
                 ..s
             },
         },
-        Item::Call => Answered {
-            verdict: Verdict::Done(0),
-            state: firmware::handle(s, window),
-        },
+        Item::Call => {
+            let mut called = s;
+            firmware::handle(&mut called, window);
+            Answered {
+                verdict: Verdict::Done(0),
+                state: called,
+            }
+        }
         Item::Read(number) => {
             let access = registers::read(m, number);
             let left = access.mssp;

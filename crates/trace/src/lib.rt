@@ -40,7 +40,7 @@ fn run(s: State, window: &mut [u8], items: &[u8]) -> State
         i += fed.length;
         if i < items.len() {
             if items[i] == 4 {
-                t = firmware::handle(t, window);
+                firmware::handle(&mut t, window);
             }
             i += 1;
         }

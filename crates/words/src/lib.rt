@@ -13,7 +13,6 @@ use wire::{Edge, Remembered};
 // After an item: the state, the part of its word that stands while nothing but bits and wire move, and the whole word.
 #[derive(Clone, Copy)]
 pub struct Drawn {
-    pub state: State,
     pub standing: u64,
     pub word: u64,
 }
@@ -34,13 +33,11 @@ fn is_storing(s: State) -> bool
 }
 
 // What the item meets: the state after the handler's call, where there is one.
-fn meet(called: bool, s: State, window: &mut [u8]) -> State
-    ensures { served result window.new ≡ met_if called (served s window.old) }
+fn meet(called: bool, s: &mut State, window: &mut [u8])
+    ensures { served s.new window.new ≡ met_if called (served s.old window.old) }
 {
     if called {
-        firmware::handle(s, window)
-    } else {
-        s
+        firmware::handle(s, window);
     }
 }
 
@@ -133,24 +130,19 @@ pub fn word(stands: u64, lines: u8, events: u8) -> u64
 }
 
 // One item of a record.
-pub fn draw_item(s: State, window: &mut [u8], item: u8) -> Drawn
-    ensures { (drawn (served result.state window.new) result.standing result.word ≡ drawn_item (served s window.old) item) × (result.standing ≤ most_standing) }
+pub fn draw_item(s: &mut State, window: &mut [u8], item: u8) -> Drawn
+    ensures { (drawn (served s.new window.new) result.standing result.word ≡ drawn_item (served s.old window.old) item) × (result.standing ≤ most_standing) }
 {
-    let first = s.mssp;
-    let phase = first.phase;
-    let called = is_called(phase, item);
-    let stored = called & is_storing(s);
-    let met = meet(called, s, window);
-    let m = met.mssp;
-    let before = m.phase;
-    let edge = edge_at(m, item);
+    let called = is_called(s.mssp.phase, item);
+    let stored = called & is_storing(*s);
+    meet(called, s, window);
+    let before = s.mssp.phase;
+    let edge = edge_at(s.mssp, item);
     let happened = events(called, stored, edge, is_in_conflict(before, item));
-    let left = sampling::sample(m, item / 2 % 2 == 1, item / 1 % 2 == 1);
-    let seen = lines_of(left);
-    let next = State { mssp: left, ..met };
-    let stands = standing(next);
+    s.mssp = sampling::sample(s.mssp, item / 2 % 2 == 1, item / 1 % 2 == 1);
+    let seen = lines_of(s.mssp);
+    let stands = standing(*s);
     Drawn {
-        state: next,
         standing: stands,
         word: word(stands, seen, happened),
     }

@@ -1,4 +1,4 @@
-use mathlib.Core.Path.{◌∙◌}
+use mathlib.Core.Path.{◌∙◌, refl}
 use native.Mathlib.Omega.{arith}
 use Rattle.lanes.specs.Drawing.{drawing_begins, stretch_inside, stretch_drawn, item_next, drawing-ends, stretch_alike, window_stays}
 use Rattle.lanes.proofs.draw.Goals as goal
@@ -28,21 +28,21 @@ offset_bounds-lanes-i-then-i-items c =
 
 pub bounds-lanes-i : goal.bounds-lanes-i
 bounds-lanes-i c =
-    let l = (stretch_drawn c.loop-i.invariant c.ahead-passed.ensures c.scl_high.ensures c.brush_in-brush.ensures c.paint.ensures c.pass_over-next.ensures c.with_module-t.ensures).written.long in omega arith
+    let l = (stretch_drawn c.loop-i.invariant c.ahead-passed.ensures c.scl_high.ensures c.brush_in-brush.ensures c.paint.ensures c.pass_over-s.ensures refl).written.long in omega arith
 
 pub overflow_add-i : goal.overflow_add-i
 overflow_add-i c = omega (arith, c.well_formed.1.1.0)
 
 pub loop-i-preserved-then-i-items : goal.loop-i-preserved-then-i-items
 loop-i-preserved-then-i-items c =
-    item_next (stretch_drawn c.loop-i.invariant c.ahead-passed.ensures c.scl_high.ensures c.brush_in-brush.ensures c.paint.ensures c.pass_over-next.ensures c.with_module-t.ensures) c.if-i-items.true c.draw_item-drawn.ensures.0 c.draw_item-drawn.ensures.1
+    item_next (stretch_drawn c.loop-i.invariant c.ahead-passed.ensures c.scl_high.ensures c.brush_in-brush.ensures c.paint.ensures c.pass_over-s.ensures refl) c.if-i-items.true c.draw_item-drawn.ensures.0 c.draw_item-drawn.ensures.1
 
 pub loop-i-smaller : goal.loop-i-smaller
 loop-i-smaller c = omega (arith, c.loop-i-test.true, c.if-i-items.false)
 
 pub loop-i-preserved : goal.loop-i-preserved
 loop-i-preserved c =
-    stretch_drawn c.loop-i.invariant c.ahead-passed.ensures c.scl_high.ensures c.brush_in-brush.ensures c.paint.ensures c.pass_over-next.ensures c.with_module-t.ensures
+    stretch_drawn c.loop-i.invariant c.ahead-passed.ensures c.scl_high.ensures c.brush_in-brush.ensures c.paint.ensures c.pass_over-s.ensures refl
 
 pub shape_of-window : goal.shape_of-window
 shape_of-window c = window_stays c.loop-i.invariant c.loop-i-test.false

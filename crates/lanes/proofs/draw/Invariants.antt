@@ -5,7 +5,7 @@ use Rattle.lanes.specs.Drawing.{Underway}
 use Rattle.lanes.proofs.draw.Given as goal
 
 abbrev pub invariant-loop-i : goal.invariant-loop-i
-invariant-loop-i l = Underway (served l.initial.t l.initial.window) l.items l.i (served l.t l.window) l.lanes l.stands
+invariant-loop-i l = Underway (served l.initial.s l.initial.window) l.items l.i (served l.s l.window) l.lanes l.stands
 
 abbrev pub decreases-loop-i : goal.decreases-loop-i
 decreases-loop-i l = length l.items - l.i

@@ -25,10 +25,10 @@ pub slice_bounds-draw_part-end-3 : goal.slice_bounds-draw_part-end-3
 slice_bounds-draw_part-end-3 c =
     let a = c.args in sym (length-take-le _ a.lanes.now (shorter_within _ _ c.shorter-count.ensures).1)
 
-pub draw_part-next-requires : goal.draw_part-next-requires
-draw_part-next-requires c =
+pub draw_part-requires : goal.draw_part-requires
+draw_part-requires c =
     let a = c.args in (work_inside 3 a.s a.buffer.now a.start a.n _ c.judge-judged.ensures c.is_accepted.ensures (ap not c.if-not-is_accepted.false), lent_alike a.s a.buffer.now a.start a.n a.items.now a.lanes.now c.shorter-count.ensures)
 
 pub returns : goal.returns
 returns c =
-    let a = c.args in draw_done a.s a.buffer.now a.start a.n a.items.now a.lanes.now c.shorter-count.ensures c.judge-judged.ensures c.is_accepted.ensures (ap not c.if-not-is_accepted.false) c.draw_part-next.ensures
+    let a = c.args in draw_done a.s a.buffer.now a.start a.n a.items.now a.lanes.now c.shorter-count.ensures c.judge-judged.ensures c.is_accepted.ensures (ap not c.if-not-is_accepted.false) c.draw_part.ensures

@@ -5,4 +5,4 @@ pub draw-requires : goal.draw-requires
 draw-requires c = c.requires.1
 
 pub returns : goal.returns
-returns c = let a = c.args in laned_back a.s a.buffer.now a.start a.n a.items.now c.draw.ensures
+returns c = let a = c.args in laned_back a.s.now a.buffer.now a.start a.n a.items.now c.draw.ensures

@@ -1,4 +1,0 @@
-use Rattle.firmware.proofs.address.Goals as goal
-
-pub returns : goal.returns
-returns c = simp (c.release.ensures, c.empty.ensures)
