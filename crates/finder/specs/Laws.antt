@@ -1,132 +1,15 @@
--- Laws that the finder's proofs cite: what is carried one item on, the end of a message one item on, the first bad item, and
--- that a part lies inside its record.
-use Rattle.std.specs.Prelude.{ℕ, zero, suc, ◌+◌, ◌-◌, ◌<◌, ◌≤◌, ◌≡◌, refl, List, Bool, true, false, ◌||◌, take, drop, ltb}
-use Rattle.std.proofs.Common.{ap, ◌∙◌, add-one}
-use native.Mathlib.Omega.{arith}
-use Rattle.std.proofs.Math.ListN.{length}
-use borrow.Author.Tests.{lt-ltb, le-ltb, ltb-true}
-use Rattle.refusals.specs.declared.Refusal.TheVariants.{NoItem, PastRecord}
-use Rattle.wire.specs.Wire.{is_start}
-use Rattle.finder.specs.declared.Whereabouts.{Whereabouts}
-use Rattle.finder.specs.declared.Whereabouts.TheVariants.{Outside, Inside}
-use Rattle.finder.specs.declared.Carried.{Carried}
-use Rattle.found.specs.declared.Found.{Found}
+-- What three laws of the finder say: a message ends by the code's two tests, and what is answered outside a message and to a bad level.
+use Rattle.std.specs.Prelude.{ℕ, ◌≡◌, List, Bool, ◌||◌}
+use Rattle.refusals.specs.declared.Refusal.TheVariants.{NoItem}
 use Rattle.found.specs.declared.Found.TheVariants.{Part, NotFound}
-use Rattle.finder.specs.Messages.{level_at, line_before, edge_at, is_stop, start_at, stop_before, past_end, lies_at, end_from, end_at}
-use Rattle.finder.specs.Carried.{unread, read_on, carried_before}
-use Rattle.found.specs.Numbers.{start_of, length_of}
-use Rattle.finder.specs.Find.{first_bad_level, part_from, message_part, span_if, span_of, part_of, part_place}
-use Rattle.finder.specs.Extent.{whole_message}
+use Rattle.finder.specs.Messages.{past_end}
+use Rattle.finder.specs.Find.{message_part, span_of}
 
--- What is carried on from an item is what is carried to the next.
-carried_next : (levels : List ℕ) (item : ℕ)
-    → read_on (carried_before levels item) item (level_at levels item) ≡ carried_before levels (suc item)
-unfolding carried_before line_before edge_at lies_at
-carried_next levels zero = refl
-carried_next levels (suc item) = refl
+abbrev pub EndTest : List ℕ → ℕ → Bool → Bool → Type 0
+EndTest levels item stopped started = (stopped || started) ≡ past_end levels item
 
-carried_stop : (levels : List ℕ) (item : ℕ) → is_stop (carried_before levels item).edge ≡ stop_before levels item
-unfolding carried_before
-carried_stop levels zero = refl
-carried_stop levels (suc item) = refl
+abbrev pub PartOutside : List ℕ → ℕ → Type 0
+PartOutside levels item = Part item 0 ≡ message_part levels item
 
-carried_start : (levels : List ℕ) (item : ℕ) → is_start (carried_before levels (suc item)).edge ≡ start_at levels item
-unfolding carried_before
-carried_start levels item = refl
-
-pub carried_first : (levels : List ℕ) → unread ≡ carried_before levels 0
-unfolding carried_before
-carried_first levels = refl
-
-module _ (levels : List ℕ) (item : ℕ) {carried next : Carried} (before : carried ≡ carried_before levels item)
-    (went : next ≡ read_on carried item (level_at levels item)) where
-  pub carried_went : next ≡ carried_before levels (item + 1)
-  carried_went = went ∙ rw (before, add-one) (carried_next levels item)
-
-  -- The two tests of the code are those of the message's end.
-  pub end_test : {stopped started : Bool} → stopped ≡ is_stop carried.edge → started ≡ is_start next.edge
-      → (stopped || started) ≡ past_end levels item
-  end_test p q = rw (p, q, carried_went, add-one, carried_start levels item, before, carried_stop levels item)
-
--- Where the message ends, by what is left of the record.
-module _ (levels : List ℕ) (item : ℕ) where
-  pub end_first : end_at levels item ≡ end_from levels (item + 1) (length levels - (item + 1))
-  end_first = rw add-one
-
-  pub end_none : length levels ≤ item → end_from levels item (length levels - item) ≡ item
-  unfolding end_from
-  end_none h = let z : length levels - item ≡ 0 = omega arith in rw z
-
-  module _ (h : item < length levels) where
-    left : length levels - item ≡ suc (length levels - (item + 1))
-    left = omega arith
-
-    pub end_here : past_end levels item ≡ true → end_from levels item (length levels - item) ≡ item
-    unfolding end_from
-    end_here t = rw (left, t)
-
-    pub end_more : past_end levels item ≡ false
-        → end_from levels item (length levels - item) ≡ end_from levels (item + 1) (length levels - (item + 1))
-    unfolding end_from
-    end_more t = rw (left, t, add-one)
-
--- Where an item lies, by what is carried on from it.
-carried_lies : (levels : List ℕ) (item : ℕ) {carried : Carried} → carried ≡ carried_before levels (item + 1)
-    → lies_at levels item ≡ carried.lies
-unfolding carried_before
-carried_lies levels item e = rw (e, add-one)
-
-module _ (levels : List ℕ) (item : ℕ) {carried : Carried} (read : carried ≡ carried_before levels (item + 1)) where
-  pub part_outside : carried.lies ≡ Outside → Part item 0 ≡ message_part levels item
-  part_outside h = rw (carried_lies levels item read, h)
-
-  module _ {start end : ℕ} (h : carried.lies ≡ Inside start) (e : end ≡ end_at levels item) where
-    pub part_inside : Part start (end - start) ≡ message_part levels item
-    part_inside = rw (carried_lies levels item read, h, e)
-
-    pub part_order : item < length levels → start ≤ end
-    part_order g =
-        let (last, p, s, q, m) = whole_message levels item start g (carried_lies levels item read ∙ h) in
-        omega arith
-
--- The three ways through a call.
-module _ (levels : List ℕ) (item : ℕ) {bad : ℕ} (first : bad ≡ first_bad_level levels) where
-  pub span_bad : bad < length levels → NotFound NoItem bad ≡ span_of levels item
-  unfolding span_of
-  span_bad h = rw (← first, lt-ltb bad (length levels) h) (ap (NotFound NoItem) first)
-
-  pub span_past : length levels ≤ bad → length levels ≤ item → NotFound PastRecord 0 ≡ span_of levels item
-  unfolding span_of
-  span_past h g = rw (← first, le-ltb bad (length levels) h, le-ltb item (length levels) g)
-
-  pub span_part : length levels ≤ bad → item < length levels → message_part levels item ≡ span_of levels item
-  unfolding span_of
-  span_part h g = rw (← first, le-ltb bad (length levels) h, lt-ltb item (length levels) g)
-
--- A part lies inside its record, whatever the call.
-lies_within : (levels : List ℕ) (item : ℕ) (lies : Whereabouts) → lies_at levels item ≡ lies → item < length levels
-    → start_of (part_from lies item (end_at levels item)) + length_of (part_from lies item (end_at levels item)) ≤ length levels
-lies_within levels item Outside e h = omega arith
-lies_within levels item (Inside start) e h =
-    let (last, p, s, q, m) = whole_message levels item start h e in
-    let v : last < length levels = m.within in
-    omega arith
-
-if_within : (levels : List ℕ) (item : ℕ) (bad inside : Bool) → ltb item (length levels) ≡ inside
-    → start_of (span_if bad inside levels item) + length_of (span_if bad inside levels item) ≤ length levels
-if_within levels item true inside e = omega arith
-if_within levels item false false e = omega arith
-if_within levels item false true e = lies_within levels item (lies_at levels item) refl (ltb-true item (length levels) e)
-
--- The part that the code takes is the one that was found.
-module _ (levels : List ℕ) (item : ℕ) {found : Found} {start count : ℕ} (e : found ≡ span_of levels item)
-    (s : start ≡ start_of found) (n : count ≡ length_of found) where
-  pub span_within : start + count ≤ length levels
-  unfolding span_of
-  span_within = rw (s, n, e) (if_within levels item (ltb (first_bad_level levels) (length levels)) (ltb item (length levels)) refl)
-
-  pub part_taken : take (start + count - start) (drop start levels) ≡ part_of levels (span_of levels item)
-  part_taken = let k : start + count - start ≡ count = omega arith in rw (k, s, n, e)
-
-  pub part_lies : (memory : ℕ × ℕ) → ◌≡◌ {A = ℕ × ℕ} (memory.0, start + memory.1) (part_place memory (span_of levels item))
-  part_lies memory = rw (s, e)
+abbrev pub SpanBad : List ℕ → ℕ → ℕ → Type 0
+SpanBad levels item bad = NotFound NoItem bad ≡ span_of levels item

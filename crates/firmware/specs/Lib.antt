@@ -1,3 +1,2 @@
 pub mod Handler
 pub mod Window
-pub mod Laws

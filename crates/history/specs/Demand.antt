@@ -7,7 +7,7 @@ use Rattle.steps.specs.Step.{after, after_all}
 use Rattle.steps.specs.Laws.{after_joined}
 use Rattle.trace.specs.Run.{item_at}
 use Rattle.runkept.specs.States.{ValidState}
-use Rattle.runkept.specs.Kept.{items_kept}
+use Rattle.runkept.proofs.Kept.{items_kept}
 use Rattle.history.specs.History.{item_of, history_of}
 
 -- What the history leaves after item k is that item's step on what it left before: no item is passed over, at any place.

@@ -7,7 +7,7 @@ use mathlib.Core.List.{List, ◌++◌}
 use Rattle.std.proofs.Math.Option.{none, some}
 use Rattle.std.proofs.Math.ListN.{replicate}
 use Rattle.codec.specs.Codec.{same_bytes}
-use Rattle.codec.specs.Laws.{same_at_lem, same_joined}
+use Rattle.codec.proofs.Laws.{same_at_lem, same_joined}
 use Rattle.wire.specs.Laws.{bool_back}
 use Rattle.wire.specs.declared.Line.{Line}
 use Rattle.mssp.specs.declared.Phase.{Phase}
@@ -18,7 +18,7 @@ use Rattle.firmware.specs.declared.State.{State}
 use Rattle.firmware.specs.Handler.{state_of}
 use Rattle.mssp.specs.Valid.{valid}
 use Rattle.module_image.specs.ModulePart.{module_length, module_part, module_from, is_module, with_module, with_stand}
-use Rattle.module_image.specs.Laws.{module_back}
+use Rattle.module_image.proofs.Laws.{module_back}
 use Rattle.image.specs.HandlerPart.{low, high, word, handler_length, handler_part, handler_from, handler_valid, is_handler}
 use Rattle.image.specs.Image.{image_length, encode_of, parse_of, is_state, decode_of}
 

@@ -4,7 +4,7 @@ use Rattle.std.specs.Prelude.{ℕ, ◌↔◌, ◌≡◌, true, false, List, T, l
 use Rattle.std.proofs.Common.{sym, ap, ◌∙◌}
 use Rattle.std.proofs.Math.Option.{none, some, none-ne-some}
 use Rattle.truth.specs.Tests.{by_test}
-use Rattle.codec.specs.Laws.{encode_apart, encoded_back, decoded_both, decoded_exactly, decoded_other}
+use Rattle.codec.proofs.Laws.{encode_apart, encoded_back, decoded_both, decoded_exactly, decoded_other}
 use Rattle.wire.specs.declared.Line.{Line}
 use Rattle.mssp.specs.declared.Phase.{Phase}
 use Rattle.mssp.specs.declared.Module.{Module}

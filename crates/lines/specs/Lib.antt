@@ -1,4 +1,2 @@
 pub mod Report
-pub mod Laws
-pub mod Room
 pub mod Worked

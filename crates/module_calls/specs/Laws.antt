@@ -7,7 +7,7 @@ use Rattle.truth.specs.Tests.{and_left, and_right}
 use Rattle.refusals.specs.declared.Refusal.{Refusal}
 use Rattle.refusals.specs.declared.Refusal.TheVariants.{NoItem}
 use Rattle.refusals.specs.declared.Verdict.TheVariants.{Done, Refused}
-use Rattle.codec.specs.Laws.{so}
+use Rattle.codec.proofs.Laws.{so}
 use Rattle.wire.specs.declared.Line.{Line}
 use Rattle.wire.specs.declared.Remembered.{Remembered}
 use Rattle.wire.specs.declared.Remembered.TheVariants.{Wire}
@@ -19,14 +19,14 @@ use Rattle.mssp.specs.Module.{module_of, stand_of}
 use Rattle.mssp.specs.Valid.{address_begins, mark_fits, valid}
 use Rattle.mssp.specs.Laws.{clauses}
 use Rattle.sampling.specs.Still.{is_still}
-use Rattle.sampling.specs.Laws.{sampled_still}
+use Rattle.sampling.proofs.Laws.{sampled_still}
 use Rattle.registers.specs.declared.Access.{Access}
 use Rattle.module_image.specs.ModulePart.{module_length, module_from, with_module, with_stand}
 use Rattle.stretch.specs.declared.Stretch.{Stretch}
 use Rattle.stretch.specs.Seen.{line_of}
 use Rattle.stretch.specs.Stretch.{stand_stretch}
 use Rattle.samples.specs.Samples.{sampled_at, moved_on}
-use Rattle.samples.specs.Laws.{level_passed}
+use Rattle.samples.proofs.Laws.{level_passed}
 use Rattle.firmware.specs.declared.State.{State}
 use Rattle.firmware.specs.Handler.{state_of}
 use Rattle.trace.specs.Run.{sampled_by}

@@ -5,7 +5,7 @@ use Rattle.writes.specs.Writes.{write_of}
 use Rattle.trace.specs.Run.{sampled_by}
 use Rattle.image.specs.Image.{encode_of, decode_of}
 use Rattle.settling.specs.Outcome.{settled, Keeps}
-use Rattle.settling.specs.Theorems.{settled_keeps, state_keeps, access_keeps}
+use Rattle.settling.proofs.Theorems.{settled_keeps, state_keeps, access_keeps}
 use Rattle.module_calls.specs.Calls.{module_in, image_with, door_read, door_write, level_verdict, door_sample}
 
 module _ (bytes : List ℕ) where

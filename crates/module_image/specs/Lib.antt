@@ -1,2 +1,1 @@
 pub mod ModulePart
-pub mod Laws

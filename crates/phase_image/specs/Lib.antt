@@ -1,2 +1,1 @@
 pub mod PhasePart
-pub mod Laws

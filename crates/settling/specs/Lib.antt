@@ -1,4 +1,3 @@
 pub mod Outcome
 pub mod Left
 pub mod Laws
-pub mod Theorems

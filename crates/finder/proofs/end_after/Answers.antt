@@ -1,7 +1,7 @@
 -- `finder::end_after` meets its contract: the message goes on up to the item that the loop has come to.
 use mathlib.Core.Path.{sym, ◌∙◌}
 use native.Mathlib.Omega.{arith}
-use Rattle.finder.specs.Laws.{carried_went, end_test, end_first, end_none, end_here, end_more}
+use Rattle.finder.proofs.Laws.{carried_went, end_test, end_first, end_none, end_here, end_more}
 use Rattle.finder.proofs.end_after.Goals as goal
 
 pub loop-end-init : goal.loop-end-init

@@ -1,6 +1,6 @@
 -- `finder::find` meets its contract: the part lies inside the record, and is the one found.
 use native.Mathlib.Omega.{arith}
-use Rattle.finder.specs.Laws.{span_within, part_taken, part_lies}
+use Rattle.finder.proofs.Laws.{span_within, part_taken, part_lies}
 use Rattle.finder.proofs.find.Goals as goal
 
 pub overflow_add-end : goal.overflow_add-end

@@ -1,6 +1,6 @@
 -- `finder::message_part` meets its contract, in a message and in none.
 use borrow.Author.Rules.{rules}
-use Rattle.finder.specs.Laws.{part_outside, part_inside, part_order}
+use Rattle.finder.proofs.Laws.{part_outside, part_inside, part_order}
 use Rattle.finder.proofs.message_part.Goals as goal
 
 pub overflow_sub-count : goal.overflow_sub-count

@@ -2,7 +2,7 @@
 use mathlib.Core.Path.{◌∙◌, ap}
 use native.Mathlib.Omega.{arith}
 use Rattle.finder.specs.Carried.{carried_before}
-use Rattle.finder.specs.Laws.{carried_first, carried_went}
+use Rattle.finder.proofs.Laws.{carried_first, carried_went}
 use Rattle.finder.proofs.read_to.Goals as goal
 
 pub loop-item-init : goal.loop-item-init

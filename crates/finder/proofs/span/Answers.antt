@@ -1,6 +1,7 @@
 -- `finder::span` meets its contract, each way through it.
 use mathlib.Core.Path.{◌∙◌}
-use Rattle.finder.specs.Laws.{span_bad, span_past, span_part}
+use Rattle.finder.proofs.BadLevel.{span_bad}
+use Rattle.finder.proofs.Laws.{span_past, span_part}
 use Rattle.finder.proofs.span.Goals as goal
 
 pub returns-then-bad-levels : goal.returns-then-bad-levels

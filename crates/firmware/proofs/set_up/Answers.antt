@@ -1,7 +1,7 @@
 use mathlib.Core.Path.{sym, subst, ◌∙◌}
 use native.Mathlib.Omega.{arith}
 use lib.Dec.{T}
-use Rattle.firmware.specs.Laws.{length_within}
+use Rattle.firmware.proofs.Laws.{length_within}
 use Rattle.firmware.proofs.set_up.Goals as goal
 
 pub overflow_cast-result : goal.overflow_cast-result

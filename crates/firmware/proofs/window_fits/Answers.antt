@@ -1,4 +1,4 @@
-use Rattle.firmware.specs.Laws.{fits_not, fits_so}
+use Rattle.firmware.proofs.Laws.{fits_not, fits_so}
 use Rattle.firmware.proofs.window_fits.Goals as goal
 
 pub returns-then-all-start : goal.returns-then-all-start

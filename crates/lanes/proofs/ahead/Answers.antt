@@ -5,7 +5,7 @@ use lib.ListN.{take}
 use lib.Seq.{length-take-le}
 use Rattle.mssp.specs.declared.Stand.{Stand}
 use Rattle.stretch.specs.Stretch.{stand_stretch}
-use Rattle.lanes.specs.Drawing.{free_within}
+use Rattle.lanes.proofs.Drawing.{free_within}
 use Rattle.lanes.proofs.ahead.Goals as goal
 
 pub slice_bounds-ahead-end : goal.slice_bounds-ahead-end

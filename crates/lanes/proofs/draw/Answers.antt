@@ -1,6 +1,6 @@
 use mathlib.Core.Path.{◌∙◌, refl}
 use native.Mathlib.Omega.{arith}
-use Rattle.lanes.specs.Drawing.{drawing_begins, stretch_inside, stretch_drawn, item_next, drawing-ends, stretch_alike, window_stays}
+use Rattle.lanes.proofs.Drawing.{drawing_begins, stretch_inside, stretch_drawn, item_next, drawing-ends, stretch_alike, window_stays}
 use Rattle.lanes.proofs.draw.Goals as goal
 
 pub loop-i-init : goal.loop-i-init

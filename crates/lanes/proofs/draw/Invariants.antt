@@ -1,7 +1,7 @@
 use Prim.Native.Nat.{◌-◌}
 use lib.ListN.{length}
 use Rattle.firmware.specs.Handler.{served}
-use Rattle.lanes.specs.Drawing.{Underway}
+use Rattle.lanes.proofs.Drawing.{Underway}
 use Rattle.lanes.proofs.draw.Given as goal
 
 abbrev pub invariant-loop-i : goal.invariant-loop-i

@@ -2,8 +2,8 @@ use mathlib.Core.Path.{ap}
 use mathlib.Core.Bool.{not}
 use mathlib.Core.Path.{sym}
 use lib.Seq.{length-take-le}
-use Rattle.trace.specs.Laws.{work_inside}
-use Rattle.lanes.specs.Laws.{shorter_within, lent_alike, draw_refused, draw_done}
+use Rattle.trace.proofs.Laws.{work_inside}
+use Rattle.lanes.proofs.Laws.{shorter_within, lent_alike, draw_refused, draw_done}
 use Rattle.lanes.proofs.draw_in.Goals as goal
 
 pub slice_bounds-judge-end : goal.slice_bounds-judge-end

@@ -1,4 +1,4 @@
-use Rattle.lanes.specs.Laws.{laned_back}
+use Rattle.lanes.proofs.Laws.{laned_back}
 use Rattle.lanes.proofs.draw_part.Goals as goal
 
 pub draw-requires : goal.draw-requires

@@ -2,7 +2,7 @@ use mathlib.Core.Path.{refl}
 use native.Mathlib.Omega.{arith}
 use native.Mathlib.Numerals.{unary_clauses}
 use Rattle.lanes.specs.Writing.{writing_begins, one_written, all_written}
-use Rattle.lanes.specs.Painting.{repeated_next, repeated_end}
+use Rattle.lanes.proofs.Painting.{repeated_next, repeated_end}
 use Rattle.lanes.proofs.fill.Goals as goal
 
 pub loop-i-init : goal.loop-i-init

@@ -1,7 +1,7 @@
 use mathlib.Core.Path.{sym, ◌∙◌}
 use native.Mathlib.Omega.{arith}
 use Rattle.lanes.specs.Writing.{writing_begins}
-use Rattle.lanes.specs.Painting.{run_painted, paint_ends}
+use Rattle.lanes.proofs.Painting.{run_painted, paint_ends}
 use Rattle.lanes.proofs.paint.Goals as goal
 
 pub loop-i-init : goal.loop-i-init

@@ -1,6 +1,6 @@
 use Prim.Native.Nat.{◌-◌}
 use lib.ListN.{length}
-use Rattle.lanes.specs.Painting.{Painting}
+use Rattle.lanes.proofs.Painting.{Painting}
 use Rattle.lanes.proofs.paint.Given as goal
 
 abbrev pub invariant-loop-i : goal.invariant-loop-i

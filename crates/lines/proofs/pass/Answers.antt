@@ -1,7 +1,7 @@
 -- `lines::pass` meets its contract: only an item moves the run.
 use native.Mathlib.Omega.{arith}
 use mathlib.Core.Path.{refl}
-use Rattle.lines.specs.Laws.{byte_passed_lem}
+use Rattle.lines.proofs.Laws.{byte_passed_lem}
 use Rattle.lines.proofs.pass.Goals as goal
 
 pub returns-in-Skipped : goal.returns-in-Skipped

@@ -1,7 +1,7 @@
 -- `lines::pass_item` meets its contract: the item is watched, then its event gets its line.
 use native.Mathlib.Omega.{arith}
-use Rattle.text.specs.Laws.{penned_at, line_room}
-use Rattle.lines.specs.Laws.{item_passed_lem}
+use Rattle.text.proofs.Laws.{penned_at, line_room}
+use Rattle.lines.proofs.Laws.{item_passed_lem}
 use Rattle.lines.proofs.pass_item.Goals as goal
 
 pub put_event-at-requires : goal.put_event-at-requires

@@ -1,6 +1,6 @@
 -- `lines::put_events` meets its contract: the set-up gives the state that the report begins with.
 use mathlib.Core.Path.{◌∙◌}
-use Rattle.lines.specs.Laws.{begun}
+use Rattle.lines.proofs.Laws.{begun}
 use Rattle.lines.proofs.put_events.Goals as goal
 
 pub returns-in-Ready : goal.returns-in-Ready

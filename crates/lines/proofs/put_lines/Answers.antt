@@ -1,7 +1,7 @@
 -- `lines::put_lines` meets its contract: the page finished from here is the page finished from the first item.
 use mathlib.Core.Path.{refl, sym, ◌∙◌}
 use native.Mathlib.Omega.{arith}
-use Rattle.lines.specs.Laws.{play_more, play_end}
+use Rattle.lines.proofs.Laws.{play_more, play_end}
 use Rattle.lines.proofs.put_lines.Goals as goal
 
 pub loop-i-init : goal.loop-i-init

@@ -5,7 +5,7 @@ use mathlib.Core.Bool.{true}
 use lib.ListN.{length, drop}
 use Rattle.input.specs.Input.{parse, clean, items_in}
 use Rattle.lines.specs.Report.{progress}
-use Rattle.lines.specs.Laws.{finished}
+use Rattle.lines.proofs.Laws.{finished}
 use Rattle.lines.proofs.put_lines.Given as goal
 
 abbrev pub invariant-loop-i : goal.invariant-loop-i

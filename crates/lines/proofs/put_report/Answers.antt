@@ -2,8 +2,8 @@
 use native.Mathlib.Omega.{arith}
 use Rattle.input.specs.Laws.{whole-clean, whole_short}
 use Rattle.text.specs.Text.{said}
-use Rattle.text.specs.Laws.{penned_at, numbered_room}
-use Rattle.lines.specs.Laws.{whole_report}
+use Rattle.text.proofs.Laws.{penned_at, numbered_room}
+use Rattle.lines.proofs.Laws.{whole_report}
 use Rattle.lines.proofs.put_report.Goals as goal
 
 pub put_events-after_lines-requires : goal.put_events-after_lines-requires

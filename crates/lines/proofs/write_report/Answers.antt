@@ -2,7 +2,7 @@
 use mir.Val.{bool_byte}
 use borrow.Author.Rules.{part_to_end}
 use Rattle.input.specs.Laws.{asked_within}
-use Rattle.lines.specs.Laws.{long_report, short_report}
+use Rattle.lines.proofs.Laws.{long_report, short_report}
 use Rattle.lines.proofs.write_report.Goals as goal
 
 pub returns-then-input-gt60000 : goal.returns-then-input-gt60000

@@ -1,7 +1,7 @@
 use native.Mathlib.Omega.{arith}
 use native.Mathlib.Nat.{mod-lt}
 use borrow.Author.Tests.{ne_eqb}
-use Rattle.memory.specs.Laws.{positive}
+use Rattle.memory.proofs.Laws.{positive}
 use Rattle.memory.proofs.wrap.Goals as goal
 
 pub overflow_cast-result : goal.overflow_cast-result

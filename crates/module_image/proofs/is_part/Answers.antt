@@ -1,4 +1,4 @@
-use Rattle.module_image.specs.Laws.{part_byte_by_byte}
+use Rattle.module_image.proofs.Laws.{part_byte_by_byte}
 use Rattle.module_image.proofs.is_part.Goals as goal
 
 pub returns : goal.returns

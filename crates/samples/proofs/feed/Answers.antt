@@ -2,7 +2,7 @@
 use mathlib.Core.Path.{sym, ◌∙◌}
 use native.Mathlib.Omega.{arith}
 use Rattle.stretch.specs.Walking.{walk_begins}
-use Rattle.samples.specs.Laws.{stretch_walked, stretch_moved, sample_stands, sample_walked, samples_end}
+use Rattle.samples.proofs.Laws.{stretch_walked, stretch_moved, sample_stands, sample_walked, samples_end}
 use Rattle.samples.proofs.feed.Goals as goal
 
 pub loop-ahead-init : goal.loop-ahead-init

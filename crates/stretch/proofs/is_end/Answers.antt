@@ -1,4 +1,4 @@
-use Rattle.stretch.specs.Laws.{scl_stays}
+use Rattle.stretch.proofs.Laws.{scl_stays}
 use Rattle.stretch.proofs.is_end.Goals as goal
 
 pub returns-then-scl : goal.returns-then-scl

@@ -1,4 +1,4 @@
-use Rattle.stretch.specs.Laws.{read_on_lem, unread}
+use Rattle.stretch.proofs.Laws.{read_on_lem, unread}
 use Rattle.stretch.proofs.over.Goals as goal
 
 pub returns-then-is_reading : goal.returns-then-is_reading

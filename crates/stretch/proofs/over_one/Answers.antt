@@ -1,5 +1,5 @@
 use mathlib.Core.Path.{◌∙◌}
-use Rattle.stretch.specs.Laws.{no_level, by_level, over_stops, over_goes}
+use Rattle.stretch.proofs.Laws.{no_level, by_level, over_stops, over_goes}
 use Rattle.stretch.proofs.over_one.Goals as goal
 
 pub returns-then-level-gt3 : goal.returns-then-level-gt3

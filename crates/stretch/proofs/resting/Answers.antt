@@ -2,7 +2,7 @@
 use native.Mathlib.Omega.{arith}
 use Rattle.stretch.specs.Walking.{walk_begins, walk_over, walk_stops, walk_out}
 use Rattle.stretch.specs.Stretch.{rested_of}
-use Rattle.stretch.specs.Laws.{no_level, by_level, resting_again}
+use Rattle.stretch.proofs.Laws.{no_level, by_level, resting_again}
 use Rattle.stretch.proofs.resting.Goals as goal
 
 pub loop-i-init : goal.loop-i-init

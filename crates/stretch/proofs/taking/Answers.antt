@@ -3,7 +3,7 @@ use mathlib.Core.Path.{ap₂}
 use native.Mathlib.Omega.{arith}
 use Rattle.stretch.specs.Walking.{walk_begins, walk_over, walk_stops, walk_out}
 use Rattle.stretch.specs.Stretch.{taken_of}
-use Rattle.stretch.specs.Laws.{no_level, by_level, taking_again}
+use Rattle.stretch.proofs.Laws.{no_level, by_level, taking_again}
 use Rattle.stretch.proofs.taking.Goals as goal
 
 pub loop-i-init : goal.loop-i-init

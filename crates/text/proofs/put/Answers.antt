@@ -1,4 +1,4 @@
-use Rattle.text.specs.Laws.{penned_byte, penned_past}
+use Rattle.text.proofs.Laws.{penned_byte, penned_past}
 use Rattle.text.proofs.put.Goals as goal
 
 pub returns-then-at-output : goal.returns-then-at-output

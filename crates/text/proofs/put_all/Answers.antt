@@ -1,7 +1,7 @@
 -- `text::put_all` meets its contract: the page is the one with the bytes passed so far.
 use mathlib.Core.Path.{refl, ◌∙◌}
 use native.Mathlib.Omega.{arith}
-use Rattle.text.specs.Laws.{penned_at, penned_none, text_more, text_end}
+use Rattle.text.proofs.Laws.{penned_at, penned_none, text_more, text_end}
 use Rattle.text.proofs.put_all.Goals as goal
 
 pub loop-i-init : goal.loop-i-init

@@ -1,6 +1,6 @@
 -- `text::put_event` meets its contract: the line is that of the row of what was heard.
 use mathlib.Core.Path.{refl}
-use Rattle.text.specs.Laws.{no_line, row_put, room_for_row}
+use Rattle.text.proofs.Laws.{no_line, row_put, room_for_row}
 use Rattle.text.proofs.put_event.Goals as goal
 
 pub put_row-requires : goal.put_row-requires

@@ -1,6 +1,6 @@
 -- `text::put_numbered` meets its contract: the words, the number and the newline, one after another.
 use native.Mathlib.Omega.{arith}
-use Rattle.text.specs.Laws.{penned_at, numbered-length, texts_3}
+use Rattle.text.proofs.Laws.{penned_at, numbered-length, texts_3}
 use Rattle.text.proofs.put_numbered.Goals as goal
 
 pub put_all-after_words-requires : goal.put_all-after_words-requires

@@ -1,6 +1,6 @@
 -- `text::put_row` meets its contract: the item, the row, the pointer and the newline, one after another.
 use native.Mathlib.Omega.{arith}
-use Rattle.text.specs.Laws.{penned_at, row_length, texts_4}
+use Rattle.text.proofs.Laws.{penned_at, row_length, texts_4}
 use Rattle.text.proofs.put_row.Goals as goal
 
 pub put_decimal-after_item-requires : goal.put_decimal-after_item-requires

@@ -1,6 +1,6 @@
 use mathlib.Core.Path.{ap}
 use mathlib.Core.Bool.{not}
-use Rattle.trace.specs.Laws.{no_window, no_item, none_bad}
+use Rattle.trace.proofs.Laws.{no_window, no_item, none_bad}
 use Rattle.trace.proofs.judge.Goals as goal
 
 pub returns-then-not-window_fits : goal.returns-then-not-window_fits

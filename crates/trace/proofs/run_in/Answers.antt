@@ -1,6 +1,6 @@
 use mathlib.Core.Path.{ap}
 use mathlib.Core.Bool.{not}
-use Rattle.trace.specs.Laws.{work_refused, work_inside, all_done}
+use Rattle.trace.proofs.Laws.{work_refused, work_inside, all_done}
 use Rattle.trace.proofs.run_in.Goals as goal
 
 pub returns-then-not-is_accepted : goal.returns-then-not-is_accepted

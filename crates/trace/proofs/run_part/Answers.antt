@@ -1,5 +1,5 @@
 use Rattle.trace.specs.Run.{run_of}
-use Rattle.firmware.specs.Laws.{part_back}
+use Rattle.firmware.proofs.Laws.{part_back}
 use Rattle.trace.proofs.run_part.Goals as goal
 
 -- What the run did to the window comes back where the window was lent from.

@@ -1,0 +1,3 @@
+pub mod Laws
+pub mod Sampled
+pub mod Theorems

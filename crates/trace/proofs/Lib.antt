@@ -1,0 +1,3 @@
+pub mod Laws
+pub mod Loop
+pub mod Theorems
