@@ -26,7 +26,7 @@ use Rattle.mssp.specs.declared.Phase.{Phase}
 use Rattle.mssp.specs.declared.Phase.TheVariants.{Quiet, Address, Data, HeldBefore, Slot, HeldForSending, Sending, MasterAcknowledge, HeldForAdd}
 use Rattle.mssp.specs.Module.{is_ten_bit, set_da, set_rw, set_full}
 use Rattle.mssp.specs.Phases.{slot_after, which_number, eight_bits, of_ten_bits}
-use Rattle.mssp.specs.Valid.{bits_fit, parts_fit, address_begins, one_condition, mark_fits, eight_fit, hold_fits, ten_fit}
+use Rattle.mssp.specs.Valid.{bits_fit, parts_fit, address_begins, one_condition, mark_fits, eight_fit, hold_fits}
 use Rattle.sampling.specs.declared.Moved.{Moved}
 use Rattle.sampling.specs.Rules.{intake, address_if, high_if, first_if, low_if, address_fall_if, data_fall_if, followed, awaits_add, fail_ended, slot_ended, bit_sent_if, fallen, risen, edge_step}
 

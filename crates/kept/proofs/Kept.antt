@@ -21,8 +21,8 @@ use Rattle.mssp.specs.Valid.{Valid, bits_fit, no_bits, parts_fit, address_begins
 use Rattle.sampling.specs.Rules.{seen_if, sampled}
 use Rattle.registers.specs.declared.Register.{Register}
 use Rattle.registers.specs.declared.Register.TheVariants.{Buf, Stat, Con1, Con2, Con3, Add, Msk, Flag, Nowhere}
-use Rattle.registers.specs.Values.{register_of, is_buf, after_read, read_of}
-use Rattle.writes.specs.Writes.{con1_config, con1_stored, con1_then, written, write_causes, verdict_of, write_of}
+use Rattle.registers.specs.Values.{register_of, is_buf, after_read}
+use Rattle.writes.specs.Writes.{con1_config, con1_stored, con1_then, written, write_causes, verdict_of}
 use Rattle.register_bytes.specs.Bytes.{sspm_of}
 use Rattle.register_bytes.proofs.Bits.{bits_back, half_back}
 use Rattle.kept.proofs.Edges.{edge_stepped, rise_short, eight_kept, ten_kept, mark_kept}

@@ -1,5 +1,5 @@
 -- What the theorems of proofs/Edges.antt say.
-use Rattle.std.specs.Prelude.{◌≡◌, Bool, true, false, ◌||◌, ◌&&◌, not, T}
+use Rattle.std.specs.Prelude.{◌≡◌, Bool, true, false, ◌||◌, ◌&&◌, T}
 use Rattle.wire.specs.declared.Remembered.{Remembered}
 use Rattle.wire.specs.declared.Remembered.TheVariants.{Wire}
 use Rattle.wire.specs.declared.Edge.{Edge}

@@ -1,6 +1,5 @@
 -- What the theorems of proofs/Kept.antt say.
 use Rattle.std.specs.Prelude.{ℕ}
-use Rattle.refusals.specs.Numbers.{accepted}
 use Rattle.mssp.specs.declared.Module.{Module}
 use Rattle.mssp.specs.Valid.{Valid}
 use Rattle.registers.specs.Values.{read_of}
