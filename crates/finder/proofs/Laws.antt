@@ -1,11 +1,11 @@
 -- Laws that the finder's proofs cite: what is carried one item on, the end of a message one item on, the first bad item, and
 -- that a part lies inside its record.
-use Rattle.std.specs.Prelude.{ℕ, zero, suc, ◌+◌, ◌-◌, ◌<◌, ◌≤◌, ◌≡◌, refl, List, Bool, true, false, ◌||◌, take, drop, ltb}
-use Rattle.std.proofs.Common.{ap, ◌∙◌, add-one}
+use Rattle.std.specs.Prelude.{ℕ, zero, suc, ◌+◌, ◌-◌, ◌<◌, ◌≤◌, ◌≡◌, refl, List, Bool, true, false, take, drop, ltb}
+use Rattle.std.proofs.Common.{◌∙◌, add-one}
 use native.Mathlib.Omega.{arith}
 use Rattle.std.proofs.Math.ListN.{length}
 use borrow.Author.Tests.{lt-ltb, le-ltb, ltb-true}
-use Rattle.refusals.specs.declared.Refusal.TheVariants.{NoItem, PastRecord}
+use Rattle.refusals.specs.declared.Refusal.TheVariants.{PastRecord}
 use Rattle.wire.specs.Wire.{is_start}
 use Rattle.finder.specs.declared.Whereabouts.{Whereabouts}
 use Rattle.finder.specs.declared.Whereabouts.TheVariants.{Outside, Inside}
