@@ -1,19 +1,16 @@
 -- What a read gives after a write, for every state and all 256 values, and what each write leaves alone
 -- (01, "Register numbers").
 use Rattle.readback.specs.Readback.{ReadbackBuf, LeavesPlace, RefusedLeaves}
-use Rattle.std.specs.Prelude.{ℕ, ◌<◌, ◌≡◌, refl, Bool, true, false, cond, ◌&&◌, not}
+use Rattle.std.specs.Prelude.{ℕ, ◌<◌, ◌≡◌, refl, Bool, true, false, ◌&&◌, not}
 use Rattle.std.proofs.Common.{sym, ◌∙◌}
 use mir.Val.{bool_byte}
 use Rattle.wire.specs.Byte.{bit}
 use Rattle.mssp.specs.declared.Module.{Module}
-use Rattle.mssp.specs.Phases.{is_held_for_sending, is_held_for_add}
-use Rattle.effects.specs.Effects.{updated_phase}
+use Rattle.mssp.specs.Phases.{is_held_for_add}
 use Rattle.registers.specs.declared.Register.{Register}
 use Rattle.registers.specs.declared.Register.TheVariants.{Buf, Stat, Con1, Con2, Con3, Add, Msk, Flag, Nowhere}
-use Rattle.registers.specs.Values.{is_add}
 use Rattle.register_bytes.specs.Bytes.{byte_of}
-use Rattle.writes.specs.Writes.{con1_stored, con1_then, written, write_of}
-use Rattle.refusals.specs.Numbers.{accepted}
+use Rattle.writes.specs.Writes.{con1_stored, con1_then, written}
 use Rattle.register_bytes.proofs.Bits.{bits_back}
 use Rattle.readback.specs.Bits.{byte_back}
 use Rattle.readback.specs.Tables.{holds, takes, clears, bit_after, byte_after, ReadsBack, apart, values}
