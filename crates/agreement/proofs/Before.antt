@@ -1,25 +1,12 @@
 -- Before the first Start on record nothing happens: no pull, no hold, no interrupt, no change of memory or pointer. So the
 -- clocks that a record begins with are never taken for an address.
-use Rattle.agreement.specs.Before.{as_set_up, before_start, Unstarted, unstarted, edged, EdgeWaits}
-use Rattle.std.specs.Prelude.{ℕ, ◌≡◌, refl, Bool, true, false, List, [], ◌∷◌, length}
-use Rattle.wire.specs.declared.Edge.{Edge}
+use Rattle.agreement.specs.Before.{Unstarted, unstarted, EdgeWaits}
+use Rattle.std.specs.Prelude.{ℕ, refl, List, [], ◌∷◌, length}
 use Rattle.wire.specs.declared.Edge.TheVariants.{Still, Start, Stop, Rise, Fall}
-use Rattle.wire.specs.declared.Line.{Line}
 use Rattle.wire.specs.Wire.{edge_of}
-use Rattle.mssp.specs.declared.Live.{Live}
-use Rattle.mssp.specs.declared.Phase.TheVariants.{Quiet}
-use Rattle.mssp.specs.Module.{module_of, chosen, live_of}
-use Rattle.memory.specs.Memory.{memory_of}
-use Rattle.firmware.specs.Handler.{state_of, handler_of}
-use Rattle.reader.specs.declared.Heard.{Heard}
-use Rattle.reader.specs.declared.Heard.TheVariants.{Started}
-use Rattle.reader.specs.declared.Place.TheVariants.{Idle}
-use Rattle.plain.specs.declared.Turn.TheVariants.{Off}
-use Rattle.reader.specs.Reader.{reader_of, heard_at}
-use Rattle.plain.specs.Device.{plain_of, hears}
 use Rattle.steps.specs.declared.Item.{Item}
 use Rattle.steps.specs.declared.Item.TheVariants.{Sample, Call}
-use Rattle.agreement.specs.Joint.{Joint, joint, before_after, ninth_after, step, run, afresh, SamplesAndCalls, ended, sample, call, NoStart, Untouched}
+use Rattle.agreement.specs.Joint.{Joint, step, run, afresh, SamplesAndCalls, ended, sample, call, NoStart, Untouched}
 use Rattle.course.proofs.Following.{module_at_edge, reader_at_edge}
 
 edge_waits : {n add : ℕ} {bytes : List ℕ} → EdgeWaits n add bytes

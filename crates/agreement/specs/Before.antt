@@ -1,7 +1,6 @@
 -- What the theorems of proofs/Before.antt say.
 use Rattle.std.specs.Prelude.{ℕ, ◌≡◌, Bool, true, false, List}
 use Rattle.wire.specs.declared.Edge.{Edge}
-use Rattle.wire.specs.declared.Edge.TheVariants.{Stop}
 use Rattle.wire.specs.declared.Line.{Line}
 use Rattle.mssp.specs.declared.Live.{Live}
 use Rattle.mssp.specs.declared.Phase.TheVariants.{Quiet}
