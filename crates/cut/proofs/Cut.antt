@@ -1,19 +1,16 @@
 -- Where the screen's left edge is has no part in what is read. Cut a record anywhere: from the first Start that the reader
 -- of the later part hears, its state is that of the reader of the whole record, at every item after it.
 use Rattle.cut.specs.Cut.{OwedAlike}
-use Rattle.std.specs.Prelude.{ℕ, ◌≡◌, refl, Bool, true, false, List, [], ◌∷◌, ◌++◌}
+use Rattle.std.specs.Prelude.{◌≡◌, refl, Bool, true, false, List, [], ◌∷◌, ◌++◌}
 use Rattle.std.proofs.Common.{sym, ap, ◌∙◌}
 use Rattle.wire.specs.declared.Remembered.{Remembered}
 use Rattle.wire.specs.declared.Remembered.TheVariants.{Nothing, Wire}
-use Rattle.reader.specs.declared.Ninth.{Ninth}
 use Rattle.reader.specs.declared.Place.{Place}
-use Rattle.reader.specs.declared.Place.TheVariants.{Idle, Ending}
-use Rattle.plain.specs.declared.Turn.{Turn}
+use Rattle.reader.specs.declared.Place.TheVariants.{Idle}
 use Rattle.reader.specs.declared.Reader.{Reader}
 use Rattle.reader.specs.Reader.{line, reader_of, reader_after, reader_afresh}
 use Rattle.reader.specs.Record.{Level, level, read_one, heard_one, read_all}
 use Rattle.reader.specs.Laws.{read_joined, Marks, no_mark, new_mark, marks_kept}
-use Rattle.plain.specs.Device.{owes}
 use Rattle.cut.specs.Heard.{StartAt, Unheard}
 
 -- The reader of the later part has heard no Start yet, and remembers the wire as the other does, or nothing.
