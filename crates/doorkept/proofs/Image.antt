@@ -8,7 +8,7 @@ use Rattle.truth.specs.Tests.{and_both}
 use Rattle.refusals.specs.declared.Refusal.TheVariants.{NoState}
 use Rattle.wire.specs.Wire.{scl_of, sda_of}
 use Rattle.mssp.specs.declared.Module.{Module}
-use Rattle.mssp.specs.Valid.{valid, Valid as ValidModule}
+use Rattle.mssp.specs.Valid.{valid}
 use Rattle.mssp.specs.Laws.{clauses, test}
 use Rattle.registers.specs.declared.Access.{Access}
 use Rattle.registers.specs.Values.{read_of}
