@@ -7,7 +7,6 @@ use Rattle.truth.specs.Tests.{never, by_choice}
 use Rattle.refusals.specs.Numbers.{accepted}
 use Rattle.refusals.specs.Laws.{none-holds}
 use Rattle.wire.specs.Byte.{bit}
-use Rattle.mssp.specs.declared.Config.{Config}
 use Rattle.mssp.specs.declared.Module.{Module}
 use Rattle.effects.specs.Effects.{emptied}
 use Rattle.register_bytes.specs.Bytes.{sspm_of}
