@@ -5,7 +5,7 @@ use Rattle.reader.specs.declared.Place.TheVariants.{Ending}
 use Rattle.plain.specs.declared.Turn.{Turn}
 use Rattle.plain.specs.Device.{owes}
 
--- .. and its acknowledge is owed alike, whatever the device was in the middle of.
+-- Its acknowledge is owed alike, whatever the device was in the middle of.
 abbrev pub OwedAlike : Type 0
 OwedAlike =
     (add : ℕ) (held scl : Bool) (turn other : Turn) (byte : ℕ) (ninth : Ninth)
