@@ -1,22 +1,24 @@
 #!/usr/bin/env python3
 """Tries the must-fail edits and tells of each wrong program and definition in them what refused it.
 
-usage: refused.py [--goals] [CRATE..]     at the top of the repository; RT_JOBS edits at once, or else one a processor
+usage: refused.py [--goals] [CRATE..]     at the top of the repository; RT_JOBS checks at once, or else one a processor
 
 rt tries an edit as a whole, says in one line whether it is refused, and keeps nothing of what the check said. So each edit is
 checked here once more, by rt check in a copy of the repository. The copies lie below a folder for temporary files, one of this
 checkout's own (REFUSED names another), since rt ci refuses a copy inside the repository. What a check said is kept in the user's
-cache, by the checksums of all that it read: an edit is not tried again while the toolchain, the edit, and the texts of its crate
+cache, by the checksums of all that it read: nothing is tried again while the toolchain, what is changed, and the texts of the crate
 and of those below it are the same. REFUSED_LOGS names another folder for that; an empty one tries all.
 
-Each wrong program begins with '# WHO: what is wrong' or '# WHO at PLACE: what is wrong'. It is refused by itself where
+Each wrong program begins with '# WHO: what is wrong' or '# WHO at PLACE: what is wrong'; without a PLACE it is WHO. It is refused by
+itself where
 - the log has 'fn CRATE::PLACE: no proof: .. did not prove `GOAL`' (or 'does not close'): a goal of the function is left;
-  (where PLACE names nothing any more, WHO is asked)
 - or an error stands in proofs/PLACE/ or names PLACE in specs/ or proofs/, and none of PLACE's errors says that a proof names what
   is no longer there (a name, a field, a place).
 It is not where it only rests on another: 'it calls `..`, which is not proved', 'declarations that depend on `..`'.
+A wrong program that the check of the whole edit does not show so, or whose place another of the edit has too, is checked alone.
 With --goals each line goes on with the goals that are left, or with the error.
 """
+import collections
 import concurrent.futures
 import glob
 import hashlib
@@ -69,47 +71,59 @@ def edits(crate):
     return sorted(glob.glob(f"crates/{crate}/must-fail/*.edit"))
 
 
-def apply(edit, folder):
-    """Applies the pairs of an edit to the crate in this folder; returns the texts as they were, and whether each old: text stood once."""
-    path, old, were, fits = "", "", {}, True
+def wrongs(edit):
+    """The wrong programs of an edit: for each whom it is wrong for, where, what is wrong, and its pairs of file, old and new text."""
+    found, path, old = [], "", ""
     for line in read(edit).split("\n"):
-        if line.startswith("file: "):
-            path = f"{folder}/{line[len('file: '):].strip()}"
+        title = re.match(r"# ([A-Za-z0-9_, '-]*): (.*)", line)
+        if title:
+            who, _, place = title.group(1).partition(" at ")
+            found.append((re.split(", *", place or who), title.group(2), []))
+        elif line.startswith("file: "):
+            path = line[len("file: "):].strip()
         elif line.startswith("old: "):
             old = line[len("old: "):]
         elif line.startswith("new:"):
-            new = line[len("new:"):]
-            text = read(path)
-            were.setdefault(path, text)
-            if text.count(old) != 1:
-                fits = False
-                print(f"NOT SO: {edit}: an old: text stands {text.count(old)} times: {old}")
-            write(path, text.replace(old, new[1:] if new.startswith(" ") else new))
-    return were, fits
+            found[-1][2].append((path, old, line[len("new: "):]))
+    return found
 
 
-def check(crate, edit, copies):
-    """What a check of the crate with the edit says. It is made in a copy, since crates above would see the wrong crate."""
+def apply(pairs, folder):
+    """Changes the crate in this folder; returns the texts as they were, and the old texts that do not stand there once."""
+    were, misfits = {}, []
+    for path, old, new in pairs:
+        text = read(f"{folder}/{path}")
+        were.setdefault(path, text)
+        if text.count(old) != 1:
+            misfits.append(f"an old: text stands {text.count(old)} times: {old}")
+        write(f"{folder}/{path}", text.replace(old, new))
+    return were, misfits
+
+
+def check(crate, pairs, copies):
+    """What a check of the crate, so changed, says. It is made in a copy, since crates above would see the wrong crate."""
     copy = copies.get()
-    were, fits = apply(edit, f"{copy}/crates/{crate}")
-    said = ""
-    if fits:
-        said = subprocess.run(["rt", "check", "--jobs", "1"], cwd=f"{copy}/crates/{crate}", stdout=subprocess.PIPE, stderr=subprocess.STDOUT, stdin=subprocess.DEVNULL).stdout.decode(errors="replace")
+    folder = f"{copy}/crates/{crate}"
+    were, misfits = apply(pairs, folder)
+    said = "".join(f"misfit: {it}\n" for it in misfits)
+    if not misfits:
+        said = subprocess.run(["rt", "check", "--jobs", "1"], cwd=folder, stdout=subprocess.PIPE, stderr=subprocess.STDOUT, stdin=subprocess.DEVNULL).stdout.decode(errors="replace")
     for path, text in were.items():
-        write(path, text)
+        write(f"{folder}/{path}", text)
     copies.put(copy)
     return said
 
 
-def log_of(crate, edit, listed, toolchain, copies):
-    """What the check of an edit said, now or before."""
+def log_of(crate, pairs, listed, toolchain, copies):
+    """What the check of a crate, changed by these pairs, said, now or before."""
     made = hashlib.sha256(toolchain)
-    for path in [edit] + [it for name in below(crate, listed) for it in texts(name)]:
+    made.update(f"{crate}\n{pairs}\n".encode())
+    for path in [it for name in below(crate, listed) for it in texts(name)]:
         made.update(f"{path}\n{read(path)}\n".encode())
     kept = f"{LOGS}/{made.hexdigest()}.log"
     if os.path.exists(kept):
         return read(kept)
-    said = check(crate, edit, copies)
+    said = check(crate, pairs, copies)
     # (one that came to no verdict is tried again the next time)
     if re.search(r"^logic=not-proved", said, re.M):
         write(kept, said)
@@ -133,12 +147,6 @@ def goals(shown):
     return ", ".join(left) or (f"{error.group(2)} in {error.group(1)}" if error and error.group(2) else shown[:200])
 
 
-def stands(crate, place):
-    """Whether a function, a law or a theorem of the crate has this name. Where a proof was written anew its steps may have lost theirs."""
-    name = re.escape(place)
-    return any(re.search(rf"\bfn {name}\b|^\s*(?:pub )?{name}(?: \{{[^}}]*\}})* :(?: |$)", read(it), re.M) for it in texts(crate) if not re.search(r"/proofs/[^/]*/", it))
-
-
 def make_copies(listed):
     copies = queue.Queue()
     for number in range(AT_ONCE):
@@ -154,29 +162,37 @@ def make_copies(listed):
     return copies
 
 
+def alone(crate, found, log):
+    """Which wrong programs of an edit have to be checked alone: those that the log of the whole does not show, and those that share a place."""
+    places = collections.Counter(place for at, _, _ in found for place in at)
+    return [n for n, (at, _, _) in enumerate(found) if any(places[it] > 1 or not by_itself(crate, it, log) for it in at)]
+
+
 def main():
     listed = crates()
     with_goals = "--goals" in sys.argv
     names = [it for it in sys.argv[1:] if it != "--goals"] or list(listed)
-    wanted = [(name, edit) for name in names for edit in edits(name)]
+    wanted = [(name, edit, wrongs(edit)) for name in names for edit in edits(name)]
     toolchain = subprocess.run(["rt", "version"], stdout=subprocess.PIPE, check=True).stdout
     copies = make_copies(listed)
-    with concurrent.futures.ThreadPoolExecutor(AT_ONCE) as pool:
-        logs = list(pool.map(lambda it: log_of(*it, listed, toolchain, copies), wanted))
     checked = missing = 0
-    for (crate, edit), log in zip(wanted, logs):
-        label = os.path.basename(edit)[:-len(".edit")]
-        for line in read(edit).split("\n"):
-            wrong = re.match(r"# ([A-Za-z0-9_, '-]*): (.*)", line)
-            if not wrong:
-                continue
-            who, _, place = wrong.group(1).partition(" at ")
-            for place in [place] if place and stands(crate, place) else re.split(", *", who):
-                shown = by_itself(crate, place, log)
-                checked += 1
-                missing += not shown
-                by = f": {goals(shown)}" if with_goals and shown else ""
-                print(f"{'refused by' if shown else 'NOT SO:'} {crate}::{place} ({label}): {wrong.group(2)}{by}")
+    with concurrent.futures.ThreadPoolExecutor(AT_ONCE) as pool:
+        tried = lambda crate, pairs: pool.submit(log_of, crate, pairs, listed, toolchain, copies)
+        whole = [tried(crate, [pair for _, _, pairs in found for pair in pairs]) for crate, _, found in wanted]
+        parts = []
+        for (crate, _, found), log in zip(wanted, whole):
+            parts.append({n: tried(crate, found[n][2]) for n in alone(crate, found, log.result())})
+        for (crate, edit, found), log, part in zip(wanted, whole, parts):
+            label = os.path.basename(edit)[:-len(".edit")]
+            for n, (at, what, _) in enumerate(found):
+                said = part[n].result() if n in part else log.result()
+                for place in at:
+                    shown = by_itself(crate, place, said)
+                    checked += 1
+                    missing += not shown
+                    misfit = re.match(r"misfit: (.*)", said)
+                    by = f": {misfit.group(1)}" if misfit else f": {goals(shown)}" if with_goals and shown else ""
+                    print(f"{'refused by' if shown else 'NOT SO:'} {crate}::{place} ({label}): {what}{by}", flush=True)
     print(f"wrong programs and definitions refused by a proof that failed by itself: {checked - missing} of {checked}")
     return 1 if missing or not checked else 0
 
