@@ -25,7 +25,7 @@ archive=target/staticlib/libdoor.a
 for wanted in pkg-config python3 sigrok-cli $([ -z "$RUN" ] && echo valgrind || echo gcc mmdebstrap); do
     need "$wanted" "$wanted"
 done
-[ -x target/bin/report ] || try report_program build_report
+[ -n "$quick" ] && [ -x target/bin/report ] || try report_program build_report
 
 # ---- Tests that go through the door, once with the archive behind it and once with the second program ----
 

@@ -12,15 +12,15 @@ say() { # say STATUS WHAT
     if [ "$1" -eq 0 ]; then echo "ok: $2"; else echo "FAILED: $2"; status=1; fi
 }
 
-# The crates with a file below one of these folders that differs from the revision.
-differing() { # differing FOLDERS
+# The crates with a file of such a name that differs from the revision.
+differing() { # differing NAMES
     { git diff --name-only "$base" -- crates; git ls-files --others --exclude-standard -- crates; } |
-        sed -nE "s,^crates/([a-z0-9_]+)/($1)/.*,\1,p" | sort -u
+        sed -nE "s,^crates/([a-z0-9_]+)/($1)$,\1,p" | sort -u
 }
 
-# What has changed, and the users of changed code and definitions: a proof that changes changes nothing for them.
+# What has changed, and the users of changed code, definitions and theorems: the proof of a function changes nothing for them.
 changed() {
-    { differing 'proofs|must-fail'; tools/crates.sh above $(differing 'src|specs'); } | sort -u
+    { differing 'proofs/.*|must-fail/.*'; tools/crates.sh above $(differing 'src/.*|specs/.*|proofs/[^/]*'); } | sort -u
 }
 
 # Proves the crates; tells of those that were not proved before, and all that was said where one is not proved.
@@ -36,13 +36,15 @@ prove() { # prove CRATE..
     done
 }
 
-# What the edits of a crate stand on: its own files, and the code and definitions, not the proofs, of all that it rests on.
+# What a crate and its edits stand on: the toolchain, its own files, and the code, definitions and theorems of all that it rests on.
 key_of() { # key_of CRATE
     local crate
     {
+        rt version
         find "crates/$1" -path '*/out' -prune -o -type f -exec sha256sum {} +
         for crate in $(tools/crates.sh below "$1"); do
             find "crates/$crate/src" "crates/$crate/specs" -type f -exec sha256sum {} + 2>/dev/null
+            sha256sum "crates/$crate"/proofs/*.antt 2>/dev/null
         done
     } | sort | sha256sum
 }

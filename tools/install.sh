@@ -10,7 +10,7 @@ prefix=$(cd "$1" && pwd)
 cd "$(dirname "$0")/.."
 version=$(sed -n 's/^#define WHERRYOAR_VERSION_[A-Z]* \([0-9]*\)$/\1/p' include/wherryoar.h | paste -sd .)
 
-. tools/machine.sh
+. tools/build.sh
 build_archive # unless the caller has just built it and says so
 mkdir -p "$prefix/include" "$prefix/lib/pkgconfig"
 install -m 644 include/wherryoar.h "$prefix/include/wherryoar.h"

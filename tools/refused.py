@@ -6,8 +6,8 @@ usage: refused.py [--goals] [CRATE..]     at the top of the repository; RT_JOBS 
 rt tries an edit as a whole, says in one line whether it is refused, and keeps nothing of what the check said. So each edit is
 checked here once more, by rt check in a copy of the repository. The copies lie below a folder for temporary files, one of this
 checkout's own (REFUSED names another), since rt ci refuses a copy inside the repository. What a check said is kept in the user's
-cache, by the checksums of all that it read: nothing is tried again while the toolchain, what is changed, and the texts of the crate
-and of those below it are the same. REFUSED_LOGS names another folder for that; an empty one tries all.
+cache, by the checksums of what it read: nothing is tried again while the toolchain, what is changed, the texts of the crate, and the code,
+definitions and theorems of those below it are the same. REFUSED_LOGS names another folder for that; an empty one tries all.
 
 Each wrong program begins with '# WHO: what is wrong' or '# WHO at PLACE: what is wrong'; without a PLACE it is WHO. It is refused by
 itself where
@@ -33,7 +33,8 @@ import tempfile
 COPIES = os.environ.get("REFUSED") or os.path.join(tempfile.gettempdir(), "refused-" + hashlib.sha256(os.getcwd().encode()).hexdigest()[:12])
 LOGS = os.environ.get("REFUSED_LOGS") or os.path.join(os.environ.get("XDG_CACHE_HOME") or os.path.expanduser("~/.cache"), "wherryoar", "refused")
 AT_ONCE = int(os.environ.get("RT_JOBS") or os.cpu_count())
-UNFIT = re.compile(r"is not in scope|has no field|has no `|is not a (field|constructor)|can be named|binders, but its type has room|explicit arguments more than|is for an impossible case|was not admitted")
+UNFIT = re.compile(r"is not in scope|has no field|has no `|is not a (field|constructor)|can be named|binders, but its type has room|explicit arguments more than|is for an impossible case")
+FOLLOWS = re.compile("was not admitted|which was rejected")
 PARTS = ("src", "specs", "proofs")
 
 
@@ -63,8 +64,10 @@ def below(name, listed, found=None):
     return found
 
 
-def texts(crate):
-    return sorted(it for part in PARTS for it in glob.glob(f"crates/{crate}/{part}/**/*", recursive=True) if os.path.isfile(it))
+def texts(crate, whole=True):
+    """The files that a check of the crate reads; those that a check of one above reads are all but the proofs of functions."""
+    found = [it for part in PARTS for it in glob.glob(f"crates/{crate}/{part}/**/*", recursive=True) if os.path.isfile(it)]
+    return sorted(it for it in found if whole or not re.match(r"crates/\w+/proofs/.*/", it))
 
 
 def edits(crate):
@@ -118,7 +121,7 @@ def log_of(crate, pairs, listed, toolchain, copies):
     """What the check of a crate, changed by these pairs, said, now or before."""
     made = hashlib.sha256(toolchain)
     made.update(f"{crate}\n{pairs}\n".encode())
-    for path in [it for name in below(crate, listed) for it in texts(name)]:
+    for path in [it for name in below(crate, listed) for it in texts(name, name == crate)]:
         made.update(f"{path}\n{read(path)}\n".encode())
     kept = f"{LOGS}/{made.hexdigest()}.log"
     if os.path.exists(kept):
@@ -137,6 +140,7 @@ def by_itself(crate, place, log):
     if left:
         return left.group()
     own = re.findall(rf"^\./proofs/(?:\w+/)*\+?{name}/\S+: error: .*$|^\./(?:specs|proofs)/\S+: error: `{name}`: .*$", log, re.M)
+    own = [it for it in own if not FOLLOWS.search(it)]
     return own[0] if own and not any(UNFIT.search(it) for it in own) else ""
 
 

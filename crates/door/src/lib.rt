@@ -1,5 +1,5 @@
-// The door: every function that C calls, by the exports of door_c. A state is 48 lent bytes, an answer is numbers. Refusals are looked at in the
-// paper's order, and a refused call changes no byte.
+// The door: every function that C calls, by the exports of door_c. A state is 48 lent bytes, an answer is numbers. Refusals are
+// looked at in the paper's order, and a refused call changes no byte.
 #![tactic(auto)]
 
 ghost use Rattle.std.specs.Prelude.{◌≡◌};

@@ -135,6 +135,7 @@ fn message_part(levels: &[u8], item: usize) -> Found
 }
 
 // Start and length of the message that an item lies in, any number taken.
+#[tactic(auto, unfolding(crate::specs::Find::span_of))]
 pub fn span(levels: &[u8], item: u64) -> Found
     ensures { result ≡ span_of levels.now item }
 {

@@ -15,7 +15,8 @@ use settling::Answer;
 pub fn set_up(state: &mut [u8], add: u8, n: u64) -> Answer
     ensures { outcome result state.new ≡ door_setup state.old add n }
 {
-    if state.len() != IMAGE_LENGTH {
+    let other_length = state.len() != IMAGE_LENGTH;
+    if other_length {
         return settling::no_state();
     }
     match firmware::set_up(add, n) {

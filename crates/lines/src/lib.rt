@@ -132,7 +132,8 @@ fn put_parsed(general: bool, input: &[u8], output: &mut [u8]) -> usize
 pub fn write_report(input: &[u8], output: &mut [u8]) -> usize
     ensures { page result output.new ≡ penned (report_of input.now) (page 0 output.old) }
 {
-    if 60000 < input.len() {
+    let too_long = 60000 < input.len();
+    if too_long {
         return text::put_all(output, 0, b"too long\n");
     }
     let general = input::asks_general(input);

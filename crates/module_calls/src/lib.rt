@@ -83,7 +83,8 @@ pub fn sample(state: &mut [u8], level: u32) -> Answer
     if !image::is_image(state) {
         return settling::no_state();
     }
-    if level > 3 {
+    let too_high = level > 3;
+    if too_high {
         return settling::refuse(Refusal::NoItem, 0);
     }
     let phase = module_image::phase_in(state);

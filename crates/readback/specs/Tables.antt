@@ -36,14 +36,14 @@ clears Msk = 0
 clears Flag = 0x01
 clears Nowhere = 0
 
--- A bit byte_after a write: the new one where it is taken, both where it can only be cleared, else the old one.
+-- A bit after a write: the new one where it is taken, both where it can only be cleared, else the old one.
 abbrev pub bit_after : Bool → Bool → Bool → Bool → Bool
 bit_after taken cleared old new = cond taken new (cond cleared (old && new) old)
 
 abbrev pub byte_after : ℕ → ℕ → ℕ → ℕ → ℕ
 byte_after taken cleared old new = each_bit (λ i. bit_after (bit i taken) (bit i cleared) (bit i old) (bit i new))
 
--- A register byte_after a write: what the masks say of its old value and of what was written.
+-- A register byte after a write: what the masks say of its old value and of what was written.
 abbrev pub ReadsBack : Register → ℕ → Module → Type 0
 ReadsBack r v m = holds r (written r v m) ≡ byte_after (takes r) (clears r) (holds r m) v
 

@@ -8,9 +8,9 @@ pub returns-then-not-is_image : goal.returns-then-not-is_image
 returns-then-not-is_image c =
     no_image refl _ _ (not_state _ (sym c.is_image.ensures ∙ c.if-not-is_image.true)) (simp c.no_state.ensures)
 
-pub returns-then-level-gt3 : goal.returns-then-level-gt3
-returns-then-level-gt3 c =
-    let found = (sym c.is_image.ensures ∙ c.if-not-is_image.false) in of_state refl _ _ (is_state_lem _ found) (level_refused _ _ _ c.if-level-gt3.true c.refuse.ensures)
+pub returns-then-too_high : goal.returns-then-too_high
+returns-then-too_high c =
+    let found = (sym c.is_image.ensures ∙ c.if-not-is_image.false) in of_state refl _ _ (is_state_lem _ found) (level_refused _ _ _ c.if-too_high.true c.refuse.ensures)
 
 pub phase_in-phase-requires : goal.phase_in-phase-requires
 phase_in-phase-requires c = long_enough _ (sym c.is_image.ensures ∙ c.if-not-is_image.false)
@@ -19,19 +19,19 @@ pub line_in-line-requires : goal.line_in-line-requires
 line_in-line-requires c = long_enough _ (sym c.is_image.ensures ∙ c.if-not-is_image.false)
 
 pub move_on-requires : goal.move_on-requires
-move_on-requires c = record { state_value = (sym c.is_image.ensures ∙ c.if-not-is_image.false); level_bound = c.if-level-gt3.false }
+move_on-requires c = record { state_value = (sym c.is_image.ensures ∙ c.if-not-is_image.false); level_bound = c.if-too_high.false }
 
 pub move_on-requires-else-is_still : goal.move_on-requires-else-is_still
-move_on-requires-else-is_still c = record { state_value = (sym c.is_image.ensures ∙ c.if-not-is_image.false); level_bound = c.if-level-gt3.false }
+move_on-requires-else-is_still c = record { state_value = (sym c.is_image.ensures ∙ c.if-not-is_image.false); level_bound = c.if-too_high.false }
 
 pub returns-in-Nothing : goal.returns-in-Nothing
 returns-in-Nothing c =
-    let found = (sym c.is_image.ensures ∙ c.if-not-is_image.false) in of_state refl _ _ (is_state_lem _ found) (level_settled _ _ _ c.if-level-gt3.false c.move_on.ensures)
+    let found = (sym c.is_image.ensures ∙ c.if-not-is_image.false) in of_state refl _ _ (is_state_lem _ found) (level_settled _ _ _ c.if-too_high.false c.move_on.ensures)
 
 pub returns-then-is_still : goal.returns-then-is_still
 returns-then-is_still c =
-    let found = (sym c.is_image.ensures ∙ c.if-not-is_image.false) in of_state refl _ _ (is_state_lem _ found) (level_settled _ _ _ c.if-level-gt3.false (short_way c.args.state.now found c.args.level c.phase_in-phase.ensures c.line_in-line.ensures c.in-Wire.is c.is_still.ensures c.if-is_still.true c.done.ensures))
+    let found = (sym c.is_image.ensures ∙ c.if-not-is_image.false) in of_state refl _ _ (is_state_lem _ found) (level_settled _ _ _ c.if-too_high.false (short_way c.args.state.now found c.args.level c.phase_in-phase.ensures c.line_in-line.ensures c.in-Wire.is c.is_still.ensures c.if-is_still.true c.done.ensures))
 
 pub returns-else-is_still : goal.returns-else-is_still
 returns-else-is_still c =
-    let found = (sym c.is_image.ensures ∙ c.if-not-is_image.false) in of_state refl _ _ (is_state_lem _ found) (level_settled _ _ _ c.if-level-gt3.false c.move_on-else-is_still.ensures)
+    let found = (sym c.is_image.ensures ∙ c.if-not-is_image.false) in of_state refl _ _ (is_state_lem _ found) (level_settled _ _ _ c.if-too_high.false c.move_on-else-is_still.ensures)
