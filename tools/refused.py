@@ -13,7 +13,7 @@ Each wrong program begins with '# WHO: what is wrong' or '# WHO at PLACE: what i
 itself where
 - the log has 'fn CRATE::PLACE: no proof: .. did not prove `GOAL`' (or 'does not close'): a goal of the function is left;
 - or an error stands in proofs/PLACE/ or names PLACE in specs/ or proofs/, and none of PLACE's errors says that a proof names what
-  is no longer there (a name, a field, a place).
+  is no longer there (a name, a field, a place), or gives an invariant or a measure of other variables.
 It is not where it only rests on another: 'it calls `..`, which is not proved', 'declarations that depend on `..`'.
 A wrong program that the check of the whole edit does not show so, or whose place another of the edit has too, is checked alone.
 With --goals each line goes on with the goals that are left, or with the error.
@@ -30,10 +30,10 @@ import subprocess
 import sys
 import tempfile
 
-COPIES = os.environ.get("REFUSED") or os.path.join(tempfile.gettempdir(), "refused-" + hashlib.sha256(os.getcwd().encode()).hexdigest()[:12])
-LOGS = os.environ.get("REFUSED_LOGS") or os.path.join(os.environ.get("XDG_CACHE_HOME") or os.path.expanduser("~/.cache"), "wherryoar", "refused")
+COPIES = os.path.abspath(os.environ.get("REFUSED") or os.path.join(tempfile.gettempdir(), "refused-" + hashlib.sha256(os.getcwd().encode()).hexdigest()[:12]))
+LOGS = os.path.abspath(os.environ.get("REFUSED_LOGS") or os.path.join(os.environ.get("XDG_CACHE_HOME") or os.path.expanduser("~/.cache"), "wherryoar", "refused"))
 AT_ONCE = int(os.environ.get("RT_JOBS") or os.cpu_count())
-UNFIT = re.compile(r"is not in scope|has no field|has no `|is not a (field|constructor)|can be named|binders, but its type has room|explicit arguments more than|is for an impossible case")
+UNFIT = re.compile(r"is not in scope|has no field|has no `|is not a (field|constructor)|can be named|binders, but its type has room|explicit arguments more than|is for an impossible case|is not a structural call|error: `(invariant|decreases)-")
 FOLLOWS = re.compile("was not admitted|which was rejected")
 PARTS = ("src", "specs", "proofs")
 
@@ -152,17 +152,20 @@ def goals(shown):
 
 
 def make_copies(listed):
+    """A copy of the crates as they are now, in which this goes on, and as many more as there are checks at once."""
     copies = queue.Queue()
-    for number in range(AT_ONCE):
-        copy = f"{COPIES}/{number}"
+    for copy in ["as-it-is"] + [str(number) for number in range(AT_ONCE)]:
         for name in listed:
-            os.makedirs(f"{copy}/crates/{name}", exist_ok=True)
-            for part in PARTS:
-                shutil.rmtree(f"{copy}/crates/{name}/{part}", ignore_errors=True)
+            os.makedirs(f"{COPIES}/{copy}/crates/{name}", exist_ok=True)
+            for part in PARTS + ("must-fail",):
+                shutil.rmtree(f"{COPIES}/{copy}/crates/{name}/{part}", ignore_errors=True)
                 if os.path.isdir(f"crates/{name}/{part}"):
-                    shutil.copytree(f"crates/{name}/{part}", f"{copy}/crates/{name}/{part}")
-        shutil.copy("crates.txt", copy)
-        copies.put(copy)
+                    shutil.copytree(f"crates/{name}/{part}", f"{COPIES}/{copy}/crates/{name}/{part}")
+        shutil.copy("crates.txt", f"{COPIES}/{copy}/crates.txt")
+        if copy == "as-it-is":
+            os.chdir(f"{COPIES}/{copy}")
+        else:
+            copies.put(f"{COPIES}/{copy}")
     return copies
 
 
@@ -176,9 +179,9 @@ def main():
     listed = crates()
     with_goals = "--goals" in sys.argv
     names = [it for it in sys.argv[1:] if it != "--goals"] or list(listed)
-    wanted = [(name, edit, wrongs(edit)) for name in names for edit in edits(name)]
     toolchain = subprocess.run(["rt", "version"], stdout=subprocess.PIPE, check=True).stdout
     copies = make_copies(listed)
+    wanted = [(name, edit, wrongs(edit)) for name in names for edit in edits(name)]
     checked = missing = 0
     with concurrent.futures.ThreadPoolExecutor(AT_ONCE) as pool:
         tried = lambda crate, pairs: pool.submit(log_of, crate, pairs, listed, toolchain, copies)
