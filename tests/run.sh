@@ -173,7 +173,7 @@ state() {
         -type f -exec sha256sum {} + | sort -k 2
 }
 make_archive() {
-    state >"$out/built_now" && build_archive && mv "$out/built_now" "$out/built_from"
+    state >"$out/built_now" && ARCHIVE_BUILT= build_archive && mv "$out/built_now" "$out/built_from"
 }
 up_to_date() {
     [ -n "$quick" ] && [ -f "$archive" ] && state | cmp -s - "$out/built_from"

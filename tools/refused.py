@@ -20,6 +20,7 @@ With --goals each line goes on with the goals that are left, or with the error.
 """
 import collections
 import concurrent.futures
+import fcntl
 import glob
 import hashlib
 import os
@@ -180,6 +181,9 @@ def main():
     with_goals = "--goals" in sys.argv
     names = [it for it in sys.argv[1:] if it != "--goals"] or list(listed)
     toolchain = subprocess.run(["rt", "version"], stdout=subprocess.PIPE, check=True).stdout
+    os.makedirs(COPIES, exist_ok=True)
+    one_run = open(f"{COPIES}/lock", "w")  # another one of this checkout waits, since the copies are the same
+    fcntl.flock(one_run, fcntl.LOCK_EX)
     copies = make_copies(listed)
     wanted = [(name, edit, wrongs(edit)) for name in names for edit in edits(name)]
     checked = missing = 0
