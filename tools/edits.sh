@@ -30,7 +30,7 @@ judged() { # judged STATUS WHAT
 
 # The public contracts of a crate.
 contracts() { # contracts CRATE
-    for function in $(sed -n 's/^pub \(extern "C" \)\{0,1\}fn \([a-z0-9_]*\).*/\2/p' "crates/$1/src/lib.rt" 2>/dev/null); do
+    for function in $(sed -n 's/^ *pub \(extern "C" \)\{0,1\}fn \([a-z0-9_]*\).*/\2/p' "crates/$1/src/lib.rt" 2>/dev/null); do
         times=$(wrongs "crates/$1"/must-fail/*.edit | sed 's/: .*//; s/ at [a-z0-9_-]*$//; s/.*/, &,/' | grep -c ", $function,")
         [ "$times" -ge 2 ]
         judged $? "$1: $function is named by $times"

@@ -1,7 +1,6 @@
 -- DEMAND 3: for every ADD, every memory and every list of samples and handler calls, module and handler agree with the
 -- plain device fed by the plain reader.
-use Rattle.std.specs.Prelude.{ℕ, ◌≤◌, ◌≡◌, refl, true, false, List, length}
-use Rattle.firmware.specs.declared.Made.TheVariants.{Ready}
+use Rattle.std.specs.Prelude.{ℕ, ◌≤◌, ◌≡◌, refl, true, false, List, length, Ok}
 use Rattle.firmware.specs.Handler.{longest_window, setup_of}
 use Rattle.firmware.proofs.Laws.{within_length}
 use Rattle.steps.specs.declared.Item.{Item}
@@ -65,5 +64,5 @@ no_intake_refused add bytes items p = not_refused (joint_run_kept (length bytes)
 -- The joint run begins with what setup makes, for each of the lengths that it takes.
 pub begins_with_setup :
     (add : ℕ) (bytes : List ℕ) → 1 ≤ length bytes → length bytes ≤ longest_window
-    → setup_of add (length bytes) ≡ Ready (afresh add bytes).state
+    → setup_of add (length bytes) ≡ Ok (afresh add bytes).state
 begins_with_setup add bytes low high = rw (within_length (length bytes) low high)

@@ -1,10 +1,10 @@
 -- What every codec promises whose encoding parses back: a valid state's encoding is an image, an image is the encoding of the
 -- one valid state that it decodes to, each state has one, and other bytes decode to none.
-use Rattle.std.specs.Prelude.{ℕ, suc, ◌+◌, ◌≤◌, ◌↔◌, ◌≡◌, refl, Bool, true, false, cond, ◌&&◌, List, [], ◌∷◌, ◌++◌, T, eqb, length, take, drop, get_or}
+use Rattle.std.specs.Prelude.{ℕ, suc, ◌+◌, ◌≤◌, ◌↔◌, ◌≡◌, refl, Bool, true, false, cond, ◌&&◌, List, [], ◌∷◌, ◌++◌, T, eqb, length, take, drop, Option, Some, None, get_or}
 use Rattle.std.proofs.Common.{sym, ap, ◌∙◌, eqb→eq, drop-cons, arith, eq-eqb}
 use Rattle.std.proofs.Math.Bool.{and_assoc}
-use Rattle.std.proofs.Math.Option.{Option, none, some, some-injective, none-ne-some}
 use Rattle.std.proofs.Math.Facts.{and_yes}
+use Rattle.std.proofs.lemmas.Option.{cond_some}
 use Rattle.codec.specs.Codec.{EncodedIs, same_bytes, same_at, is_image, decoded_by}
 
 -- ---- equal bytes
@@ -38,11 +38,6 @@ pub so : (t : Bool) → T t → t ≡ true
 so true h = refl
 so false h = absurd h
 
--- What was picked, it was picked for.
-picked : {S : Type 0} {s t : S} (found : Bool) → cond found (some s) none ≡ some t → T found × (s ≡ t)
-picked {s = s} {t = t} true e = (tt, some-injective s t e)
-picked {t = t} false e = absurd (none-ne-some t e)
-
 module _ {S : Type 0} (encode : S → List ℕ) (parse : List ℕ → S) (valid : S → Bool) (back : (s : S) → parse (encode s) ≡ s) where
   -- Every valid state's encoding is an image.
   pub encoded_is : EncodedIs encode parse valid
@@ -63,24 +58,24 @@ module _ {S : Type 0} (encode : S → List ℕ) (parse : List ℕ → S) (valid 
   decode = decoded_by encode parse valid
 
   -- A valid state comes back from its encoding.
-  pub encoded_back : (s : S) → T (valid s) → decode (encode s) ≡ some s
+  pub encoded_back : (s : S) → T (valid s) → decode (encode s) ≡ Some s
   encoded_back s v = rw (encoded_is s v, back s)
 
   -- What bytes decode to is valid, and they are its image.
-  pub decoded_both : (bytes : List ℕ) (s : S) → decode bytes ≡ some s → (encode s ≡ bytes) × T (valid s)
+  pub decoded_both : (bytes : List ℕ) (s : S) → decode bytes ≡ Some s → (encode s ≡ bytes) × T (valid s)
   decoded_both bytes s e =
-      let found = picked (is_image encode parse valid bytes) e in
-      let named = image_names bytes found.0 in
+      let found = cond_some (is_image encode parse valid bytes) (parse bytes) s e in
+      let named = image_names bytes (rw found.0 tt) in
       (ap encode (sym found.1) ∙ named.0, rw found.1 at named.1)
 
   -- Both ways at once.
-  pub decoded_exactly : (bytes : List ℕ) (s : S) → (decode bytes ≡ some s) ↔ ((encode s ≡ bytes) × T (valid s))
+  pub decoded_exactly : (bytes : List ℕ) (s : S) → (decode bytes ≡ Some s) ↔ ((encode s ≡ bytes) × T (valid s))
   decoded_exactly bytes s = (decoded_both bytes s, λ h. rw h.0 at (encoded_back s h.1))
 
   -- Bytes that are the image of no valid state decode to none, of whatever length they are.
-  pub decoded_other : (bytes : List ℕ) → ((s : S) → T (valid s) → encode s ≡ bytes → ⊥) → decode bytes ≡ none
+  pub decoded_other : (bytes : List ℕ) → ((s : S) → T (valid s) → encode s ≡ bytes → ⊥) → decode bytes ≡ None
   decoded_other bytes nobody = none_or (decode bytes) refl
     where
-      none_or : (found : Option S) → decode bytes ≡ found → found ≡ none
-      none_or none e = refl
-      none_or (some s) e = let both = decoded_both bytes s e in absurd (nobody s both.1 both.0)
+      none_or : (found : Option S) → decode bytes ≡ found → found ≡ None
+      none_or None e = refl
+      none_or (Some s) e = let both = decoded_both bytes s e in absurd (nobody s both.1 both.0)

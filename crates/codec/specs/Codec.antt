@@ -1,7 +1,6 @@
 -- Bytes as the image of a state (01, "Calls, refusals and their order"), for any kind of state: it is encoded, bytes name one
 -- whether they are its image or not, and some states are valid.
-use Rattle.std.specs.Prelude.{ℕ, suc, ◌≡◌, T, Bool, true, false, cond, ◌&&◌, List, [], ◌∷◌, eqb, get_or}
-use Rattle.std.proofs.Math.Option.{Option, none, some}
+use Rattle.std.specs.Prelude.{ℕ, suc, ◌≡◌, T, Bool, true, false, cond, ◌&&◌, List, [], ◌∷◌, Option, Some, None, eqb, get_or}
 
 abbrev pub same_bytes : List ℕ → List ℕ → Bool
 same_bytes [] [] = true
@@ -20,7 +19,7 @@ is_image encode parse valid bytes = same_bytes (encode (parse bytes)) bytes && v
 
 -- They decode to that state, and other bytes to none.
 abbrev pub decoded_by : {S : Type 0} → (S → List ℕ) → (List ℕ → S) → (S → Bool) → List ℕ → Option S
-decoded_by encode parse valid bytes = cond (is_image encode parse valid bytes) (some (parse bytes)) none
+decoded_by encode parse valid bytes = cond (is_image encode parse valid bytes) (Some (parse bytes)) None
 
 -- Every valid state's encoding is an image.
 abbrev pub EncodedIs : {S : Type 0} → (S → List ℕ) → (List ℕ → S) → (S → Bool) → Type 0

@@ -1,15 +1,14 @@
 -- Every sample keeps module and reader together, on the course that it leads to; and what the module pulls on each.
-use Rattle.std.specs.Prelude.{ℕ, ◌+◌, ◌%◌, ◌<◌, pred, ◌≡◌, refl, Bool, true, false, ltb}
+use Rattle.std.specs.Prelude.{ℕ, ◌+◌, ◌%◌, ◌<◌, pred, ◌≡◌, refl, Bool, true, false, ltb, Option, Some, None}
 use Rattle.std.proofs.Common.{sym, ap, ◌∙◌, arith, ltb-true, ltb-false, eq-eqb, ne_eqb}
 use Rattle.truth.specs.Tests.{by_test, or_false}
 use Rattle.wire.specs.declared.Bits.{Bits}
 use Rattle.wire.specs.declared.Line.{Line}
-use Rattle.wire.specs.declared.Remembered.{Remembered}
-use Rattle.wire.specs.declared.Remembered.TheVariants.{Nothing, Wire}
+use Rattle.wire.specs.declared.Level.{Level}
 use Rattle.wire.specs.declared.Edge.{Edge}
 use Rattle.wire.specs.declared.Edge.TheVariants.{Still, Start, Stop, Rise, Fall}
 use Rattle.wire.specs.Byte.{pushed, whole, zero_at}
-use Rattle.wire.specs.Wire.{condition, edge_from, edge_of, line_after, on_wire, scl_high}
+use Rattle.wire.specs.Wire.{condition, edge_between, edge_from, edge_of, line_after, on_wire, scl_high, wire}
 use Rattle.mssp.specs.declared.Config.{Config}
 use Rattle.mssp.specs.declared.Live.{Live}
 use Rattle.mssp.specs.declared.Phase.{Phase}
@@ -18,10 +17,8 @@ use Rattle.mssp.specs.declared.Module.{Module}
 use Rattle.mssp.specs.Module.{module_of, chosen}
 use Rattle.mssp.specs.Phases.{is_refused}
 use Rattle.mssp.specs.Drivers.{scl_pulled, sda_pulled}
-use Rattle.sampling.specs.declared.Moved.{Moved}
-use Rattle.sampling.specs.Rules.{edge_step, seen_if, seen, sampled}
+use Rattle.sampling.specs.Rules.{Moved, edge_step, seen_if, seen, sampled}
 use Rattle.address.specs.Theorems.{taken_by_test}
-use Rattle.reader.specs.declared.Ninth.TheVariants.{Waiting, Got}
 use Rattle.reader.specs.declared.Place.{Place}
 use Rattle.reader.specs.declared.Heard.TheVariants.{Silence}
 use Rattle.reader.specs.declared.Reader.{Reader}
@@ -42,27 +39,32 @@ setup-answers add =
     }
 
 -- ---- which edge a change of the wire can be
-data Move : Remembered → Remembered → Edge → Type 0 where
-  first : {scl sda : Bool} → Move Nothing (Wire scl sda) Still
-  stays : {scl before sda : Bool} → Move (Wire scl before) (Wire scl sda) Still
-  rises : {before sda : Bool} → Move (Wire false before) (Wire true sda) (Rise sda)
-  falls : {before sda : Bool} → Move (Wire true before) (Wire false sda) Fall
-  starts : Move (Wire true true) (Wire true false) Start
-  stops : Move (Wire true false) (Wire true true) Stop
+data Move : Option Level → Option Level → Edge → Type 0 where
+  first : {scl sda : Bool} → Move None (Some (wire scl sda)) Still
+  stays : {scl before sda : Bool} → Move (Some (wire scl before)) (Some (wire scl sda)) Still
+  rises : {before sda : Bool} → Move (Some (wire false before)) (Some (wire true sda)) (Rise sda)
+  falls : {before sda : Bool} → Move (Some (wire true before)) (Some (wire false sda)) Fall
+  starts : Move (Some (wire true true)) (Some (wire true false)) Start
+  stops : Move (Some (wire true false)) (Some (wire true true)) Stop
 
-sda_move : (mark before sda : Bool) → Move (Wire true before) (Wire true sda) (condition mark before sda)
+sda_move : (mark before sda : Bool) → Move (Some (wire true before)) (Some (wire true sda)) (condition mark before sda)
 sda_move true before sda = stays
 sda_move false true true = stays
 sda_move false true false = starts
 sda_move false false true = stops
 sda_move false false false = stays
 
-move : (mark : Bool) (seen : Remembered) (scl sda : Bool) → Move seen (Wire scl sda) (edge_from mark seen scl sda)
-move mark Nothing scl sda = first
-move mark (Wire false before) false sda = stays
-move mark (Wire false before) true sda = rises
-move mark (Wire true before) false sda = falls
-move mark (Wire true before) true sda = sda_move mark before sda
+move_between :
+    (mark scl_before before scl sda : Bool)
+    → Move (Some (wire scl_before before)) (Some (wire scl sda)) (edge_between mark scl_before before scl sda)
+move_between mark false before false sda = stays
+move_between mark false before true sda = rises
+move_between mark true before false sda = falls
+move_between mark true before true sda = sda_move mark before sda
+
+move : (mark : Bool) (seen : Option Level) (scl sda : Bool) → Move seen (Some (wire scl sda)) (edge_from mark seen scl sda)
+move mark None scl sda = first
+move mark (Some before) scl sda = move_between mark before.scl before.sda scl sda
 
 -- Module and reader after an edge.
 unfoldable pub module_at_edge : Edge → Bool → Bool → Module → Module
@@ -75,7 +77,7 @@ reader_at_edge e scl sda r = reader_of (line_after r.line.mark e scl sda) (place
 
 -- ---- one edge, course by course
 still :
-    {add : ℕ} {c : Config} {kind : Kind} {v : ℕ} {bf da rw i ks kt s p mark : Bool} {ph : Phase} {z : Remembered} {place : Place}
+    {add : ℕ} {c : Config} {kind : Kind} {v : ℕ} {bf da rw i ks kt s p mark : Bool} {ph : Phase} {z : Option Level} {place : Place}
     → Runs add kind v bf da rw ks ph z place
     → Led add c (free kind) Silence (module_of c (flags v bf da rw true i ks kt s p) ph (line z mark)) (reader_of (line z mark) place)
 still f = to unheard (runs f)
@@ -91,20 +93,20 @@ apart_within b true = passing
 apart_within b false = within
 
 apart_fall :
-    {add : ℕ} {c : Config} {v : ℕ} {da rw i ks kt s p mark : Bool} {z : Remembered} {place : Place} → Apart add place
+    {add : ℕ} {c : Config} {v : ℕ} {da rw i ks kt s p mark : Bool} {z : Option Level} {place : Place} → Apart add place
     → Led add c (free off) (fall_heard place) (module_of c (flags v false da rw true i ks kt s p) Quiet (line z mark))
     (reader_of (line z mark) (fall_place place))
 apart_fall idle = still (apart idle)
 apart_fall (within {b = b}) = still (apart (apart_within b (whole b)))
-apart_fall (not_ours {y = Waiting} e) = still (apart (not_ours e))
-apart_fall (not_ours {y = Got level} e) = to (others_address e) (runs (apart within))
-apart_fall (passing {y = Waiting}) = still (apart passing)
-apart_fall (passing {y = Got level}) = to others_byte (runs (apart within))
+apart_fall (not_ours {y = None} e) = still (apart (not_ours e))
+apart_fall (not_ours {y = Some level} e) = to (others_address e) (runs (apart within))
+apart_fall (passing {y = None}) = still (apart passing)
+apart_fall (passing {y = Some level}) = to others_byte (runs (apart within))
 
 -- While a byte is sent, whatever SDA does.
 sends :
     {add x place : ℕ} {c c' : Config} {w : Course} {l : Live} {y : Line} {r : Reader} {scl sda : Bool} {e : Edge}
-    → Follows add c w (module_of c' l (Sending x place) y) r → Move y.remembered (Wire scl sda) e
+    → Follows add c w (module_of c' l (Sending x place) y) r → Move y.remembered (Some (wire scl sda)) e
     → Led add c w (heard_at r.place e) (module_at_edge e scl sda (module_of c' l (Sending x place) y)) (reader_at_edge e scl sda r)
 unfolding module_at_edge reader_at_edge
 sends (runs (sent-low h)) stays = still (sent-low h)
@@ -125,7 +127,7 @@ looks :
     {add : ℕ} {c : Config} {w : Course} {m : Module} {r : Reader} {e : Edge} (l d : Bool) → AnswersAlone add c
     → Follows add c w m r
     → (let scl : Bool = on_wire (scl_pulled m.phase) l in let sda : Bool = on_wire (sda_pulled m.phase) d in
-    Move m.line.remembered (Wire scl sda) e
+    Move m.line.remembered (Some (wire scl sda)) e
     → Led add c w (heard_at r.place e) (module_at_edge e scl sda m) (reader_at_edge e scl sda r))
 unfolding module_at_edge reader_at_edge
 looks l d a (runs (apart f)) first = still (apart f)
@@ -187,12 +189,12 @@ sample_follows {m = m} l d a (runs {mark = mark} {ph = ph} {z = z} f) =
 sample_follows {m = m} l d a (waits {d = before} {mark = mark} {ph = ph} f) =
     let scl : Bool = on_wire (scl_pulled ph) l in
     let sda : Bool = on_wire (sda_pulled ph) d in
-    rw (seen_enabled m scl sda a.enabled) (looks l d a (waits f) (move mark (Wire false before) scl sda))
+    rw (seen_enabled m scl sda a.enabled) (looks l d a (waits f) (move mark (Some (wire false before)) scl sda))
 
 -- ---- what the module pulls
 -- While the clock is free it is not pulled; and no byte of this course was refused.
 pub clear :
-    {add v : ℕ} {kind : Kind} {bf da rw ks : Bool} {ph : Phase} {z : Remembered} {place : Place}
+    {add v : ℕ} {kind : Kind} {bf da rw ks : Bool} {ph : Phase} {z : Option Level} {place : Place}
     → Runs add kind v bf da rw ks ph z place → (scl_pulled ph ≡ false) × (is_refused ph ≡ false)
 clear (apart f) = (refl, refl)
 clear addressing = (refl, refl)
@@ -209,7 +211,7 @@ just_taken : (count : ℕ) → count < 8 → count ≡ pred (count % 8 + 1)
 just_taken count h = omega arith
 
 pub pulls_what_is_owed :
-    {add v : ℕ} {kind : Kind} {bf da rw ks : Bool} {ph : Phase} {z : Remembered} {place : Place} (due : Bool)
+    {add v : ℕ} {kind : Kind} {bf da rw ks : Bool} {ph : Phase} {z : Option Level} {place : Place} (due : Bool)
     → Runs add kind v bf da rw ks ph z place → sda_pulled ph ≡ owes add false (scl_high z) place (turn_of due kind)
 pulls_what_is_owed due (apart idle) = refl
 pulls_what_is_owed due (apart within) = refl

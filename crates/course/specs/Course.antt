@@ -1,10 +1,10 @@
 -- The first part of demand 3's relation: the module against the plain reader, for every configuration that answers to its own
 -- address alone. Handler and device stay outside; they meet it in the course that the module is on.
-use Rattle.std.specs.Prelude.{ℕ, ◌<◌, ◌≡◌, Bool, true, false}
+use Rattle.std.specs.Prelude.{ℕ, ◌<◌, ◌≡◌, Bool, true, false, Option, Some, None}
 use Rattle.wire.specs.declared.Bits.{Bits}
-use Rattle.wire.specs.declared.Remembered.{Remembered}
-use Rattle.wire.specs.declared.Remembered.TheVariants.{Wire}
+use Rattle.wire.specs.declared.Level.{Level}
 use Rattle.wire.specs.Byte.{bit, none, pushed}
+use Rattle.wire.specs.Wire.{wire}
 use Rattle.address.specs.Comparison.{hit_of, is_taken}
 use Rattle.mssp.specs.declared.Config.{Config}
 use Rattle.mssp.specs.declared.Live.{Live}
@@ -14,8 +14,6 @@ use Rattle.mssp.specs.declared.Phase.{Phase}
 use Rattle.mssp.specs.declared.Phase.TheVariants.{Quiet, Address, Data, Slot, HeldForSending, Sending, MasterAcknowledge}
 use Rattle.mssp.specs.declared.Module.{Module}
 use Rattle.mssp.specs.Module.{module_of, is_ten_bit, live_of}
-use Rattle.reader.specs.declared.Ninth.{Ninth}
-use Rattle.reader.specs.declared.Ninth.TheVariants.{Waiting, Got}
 use Rattle.reader.specs.declared.Place.{Place}
 use Rattle.reader.specs.declared.Place.TheVariants.{Idle, Within, Ending}
 use Rattle.reader.specs.declared.Heard.{Heard}
@@ -74,8 +72,8 @@ pub data Leads (add : ℕ) : Course → Heard → Course → Type 0 where
 pub data Apart (add : ℕ) : Place → Type 0 where
   idle : Apart add Idle
   within : {b : Bits} → Apart add (Within false b)
-  not_ours : {x : ℕ} {y : Ninth} → own add x ≡ false → Apart add (Ending true x y)
-  passing : {x : ℕ} {y : Ninth} → Apart add (Ending false x y)
+  not_ours : {x : ℕ} {y : Option Bool} → own add x ≡ false → Apart add (Ending true x y)
+  passing : {x : ℕ} {y : Option Bool} → Apart add (Ending false x y)
 
 -- What a slot acknowledges, with D/A and R/W: the own address, or a byte of a write.
 pub data Acknowledges (add : ℕ) : Kind → Bool → ℕ → Bool → Bool → Type 0 where
@@ -83,30 +81,30 @@ pub data Acknowledges (add : ℕ) : Kind → Bool → ℕ → Bool → Bool → 
   write_byte : {x : ℕ} → Acknowledges add writing false x true false
 
 -- While the clock is free: kind of turn; BUF, BF, D/A, R/W, ACKSTAT; phase; wire; place of the reader.
-pub data Runs (add : ℕ) : Kind → ℕ → Bool → Bool → Bool → Bool → Phase → Remembered → Place → Type 0 where
+pub data Runs (add : ℕ) : Kind → ℕ → Bool → Bool → Bool → Bool → Phase → Option Level → Place → Type 0 where
   apart :
-      {v : ℕ} {da rw ks : Bool} {z : Remembered} {place : Place} → Apart add place
+      {v : ℕ} {da rw ks : Bool} {z : Option Level} {place : Place} → Apart add place
       → Runs add off v false da rw ks Quiet z place
   addressing :
-      {v : ℕ} {da rw ks l d : Bool} {b : Bits} → Runs add off v false da rw ks (Address b false) (Wire l d) (Within true b)
+      {v : ℕ} {da rw ks l d : Bool} {b : Bits} → Runs add off v false da rw ks (Address b false) (Some (wire l d)) (Within true b)
   slot_low :
       {kind : Kind} {first : Bool} {v : ℕ} {da rw ks d : Bool} → Acknowledges add kind first v da rw
-      → Runs add kind v true da rw ks (Slot Pulls Other) (Wire false d) (Ending first v Waiting)
+      → Runs add kind v true da rw ks (Slot Pulls Other) (Some (wire false d)) (Ending first v None)
   slot_high :
       {kind : Kind} {first : Bool} {v : ℕ} {da rw ks : Bool} → Acknowledges add kind first v da rw
-      → Runs add kind v true da rw ks (Slot Pulls Other) (Wire true false) (Ending first v (Got false))
+      → Runs add kind v true da rw ks (Slot Pulls Other) (Some (wire true false)) (Ending first v (Some false))
   taking :
-      {v : ℕ} {da ks l d : Bool} {b : Bits} → Runs add writing v false da false ks (Data b false) (Wire l d) (Within false b)
+      {v : ℕ} {da ks l d : Bool} {b : Bits} → Runs add writing v false da false ks (Data b false) (Some (wire l d)) (Within false b)
   sent-low :
       {x v : ℕ} {da ks d : Bool} {b : Bits} → b.count < 8
-      → Runs add (reading x) v true da true ks (Sending x b.count) (Wire false d) (Within false b)
+      → Runs add (reading x) v true da true ks (Sending x b.count) (Some (wire false d)) (Within false b)
   sent-high :
       {x v : ℕ} {da ks d : Bool} (b : Bits) (y : Bool) → b.count < 8
-      → Runs add (reading x) v true da true ks (Sending x b.count) (Wire true d) (Within false (pushed b y))
+      → Runs add (reading x) v true da true ks (Sending x b.count) (Some (wire true d)) (Within false (pushed b y))
   asked_low :
-      {x v u : ℕ} {ks d : Bool} → Runs add (reading x) v false true true ks MasterAcknowledge (Wire false d) (Ending false u Waiting)
+      {x v u : ℕ} {ks d : Bool} → Runs add (reading x) v false true true ks MasterAcknowledge (Some (wire false d)) (Ending false u None)
   asked_high :
-      {x v u : ℕ} {ks d : Bool} → Runs add (reading x) v false true true ks MasterAcknowledge (Wire true d) (Ending false u (Got ks))
+      {x v u : ℕ} {ks d : Bool} → Runs add (reading x) v false true true ks MasterAcknowledge (Some (wire true d)) (Ending false u (Some ks))
 
 -- While it is held: the task; BUF, BF, D/A, R/W; phase. A call finds its case by these.
 pub data Waits : Task → ℕ → Bool → Bool → Bool → Phase → Type 0 where
@@ -120,13 +118,13 @@ flags buf bf da rw ckp sspif ackstat acktim s p = live_of s p da rw bf false ckp
 
 pub data Follows (add : ℕ) (c : Config) : Course → Module → Reader → Type 0 where
   runs :
-      {kind : Kind} {v : ℕ} {bf da rw i ks kt s p mark : Bool} {ph : Phase} {z : Remembered} {place : Place}
+      {kind : Kind} {v : ℕ} {bf da rw i ks kt s p mark : Bool} {ph : Phase} {z : Option Level} {place : Place}
       → Runs add kind v bf da rw ks ph z place
       → Follows add c (free kind) (module_of c (flags v bf da rw true i ks kt s p) ph (line z mark)) (reader_of (line z mark) place)
   waits :
       {task : Task} {v : ℕ} {bf da rw ks kt s p d mark : Bool} {ph : Phase} → Waits task v bf da rw ph
-      → Follows add c (hold task) (module_of c (flags v bf da rw false true ks kt s p) ph (line (Wire false d) mark))
-      (reader_of (line (Wire false d) mark) (Within false none))
+      → Follows add c (hold task) (module_of c (flags v bf da rw false true ks kt s p) ph (line (Some (wire false d)) mark))
+      (reader_of (line (Some (wire false d)) mark) (Within false none))
 
 -- Both follow what they have seen, on the course that it led to.
 pub data Led (add : ℕ) (c : Config) (w : Course) (heard : Heard) : Module → Reader → Type 0 where

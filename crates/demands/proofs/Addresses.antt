@@ -1,6 +1,6 @@
 -- Which address hit (02, 1): what hit says, by the registers that look shows, and that the module takes an address just as it says. And
 -- ten bits (02, 9): UA and the hold for ADD, what ends it, and which bytes a ten-bit module acknowledges.
-use Rattle.std.specs.Prelude.{ℕ, ◌/◌, ◌%◌, ◌^◌, ◌≤◌, ◌⊎◌, ◌↔◌, ◌≡◌, refl, Bool, true, false, ◌&&◌, not, cond, ◌||◌, T, eqb, ltb, length}
+use Rattle.std.specs.Prelude.{ℕ, ◌/◌, ◌%◌, ◌^◌, ◌≤◌, ◌⊎◌, ◌↔◌, ◌≡◌, refl, Bool, true, false, ◌&&◌, not, cond, ◌||◌, Result, Ok, Err, T, eqb, ltb, length, Option, Some, None as Unseen}
 use Rattle.std.proofs.Math.Logic.{inl, inr, ⊎_elim}
 use Rattle.std.proofs.Math.Path.{sym, ap}
 use Rattle.std.proofs.Common.{subst, ◌∙◌, true≢false, arith, eqb→eq}
@@ -9,13 +9,13 @@ use mathlib.Core.List.{[], ◌∷◌, List, map}
 use mir.Val.{bool_byte}
 use borrow.Author.Tests.{eqb-true, eqb-false, eq-eqb, ne_eqb, lt-ltb, not-false}
 use Rattle.truth.specs.Tests.{by_test, never, and_left, by_choice, or_false, neither, and_first, and_second}
+use Rattle.refusals.specs.declared.Refusal.{Refusal}
 use Rattle.refusals.specs.Numbers.{accepted}
 use Rattle.wire.specs.declared.Bits.{Bits}
-use Rattle.wire.specs.declared.Remembered.{Remembered}
-use Rattle.wire.specs.declared.Remembered.TheVariants.{Nothing, Wire}
+use Rattle.wire.specs.declared.Level.{Level}
 use Rattle.wire.specs.declared.Edge.TheVariants.{Fall}
 use Rattle.wire.specs.Byte.{bit}
-use Rattle.wire.specs.Wire.{sda_of, on_wire, edge_from, scl_of}
+use Rattle.wire.specs.Wire.{sda_of, on_wire, edge_between, edge_from, scl_of, wire}
 use Rattle.mssp.specs.declared.Config.{Config}
 use Rattle.mssp.specs.declared.Live.{Live}
 use Rattle.mssp.specs.declared.Which.{Which}
@@ -37,12 +37,13 @@ use Rattle.address.specs.declared.Hit.TheVariants.{None, Own, GeneralCall}
 use Rattle.address.specs.Comparison.{hit_number, agrees, fitting, hit_of, is_taken}
 use Rattle.address.specs.Theorems.{own-said, general_said, taken_by_test}
 use Rattle.effects.specs.Effects.{emptied, released_phase, next_phase, updated_phase}
-use Rattle.sampling.specs.declared.Moved.{Moved}
-use Rattle.sampling.specs.Rules.{intake, high_if, first_if, address_byte, ◌at◌, edge_step, seen_if, low_if, slot_ended, fallen}
+use Rattle.sampling.specs.Rules.{Moved, intake, high_if, first_if, address_byte, ◌at◌, edge_step, seen_if, low_if, slot_ended, fallen}
 use Rattle.register_bytes.specs.Bytes.{con1_of}
 use Rattle.register_bytes.proofs.Bits.{bits_back}
-use Rattle.registers.specs.Values.{register_of, is_buf}
-use Rattle.writes.specs.Writes.{con1_stored, con1_then, written, verdict_of}
+use Rattle.registers.specs.declared.Register.{Register}
+use Rattle.registers.specs.declared.Register.TheVariants.{Buf, Stat, Con1, Con2, Con3, Add, Msk, Flag}
+use Rattle.registers.specs.Values.{register_of, register_number, is_buf, read_at}
+use Rattle.writes.specs.Writes.{con1_stored, con1_then, written, verdict_of, write_at}
 use Rattle.firmware.specs.declared.State.{State}
 use Rattle.firmware.specs.Handler.{Served, served, acknowledged, serve, called_if}
 use Rattle.firmware.specs.Window.{window_of}
@@ -61,7 +62,7 @@ use Rattle.items.specs.First.{first_above}
 use Rattle.demands.specs.Calls.{shown_con1, HasTenBits, AgreesIn, Fits, TakenAsSaid, feed_sample, Host, at_door, by_definition, ImageOf, DoorCall, set_up, read_register, write_register, call_handler, run_trace, has_window, in_window, CanEndTheHold, FollowsAsShown, Matches, EndsAs, draw_lanes, drawn_levels}
 use Rattle.demands.specs.Demands.{HitSays, TakesWhatHits, UAInTheHold, HeldUntilADD, EndedByADD, AcknowledgesTenBits, NinthFallOfTenBits, SevenBitsAlone}
 use Rattle.demands.proofs.DemandTwo.{look_is, hit_is, image_or_none, demand_two, shown_is}
-use Rattle.demands.proofs.DemandOne.{both, is_one, equal, shown_ten, by_register}
+use Rattle.demands.proofs.DemandOne.{both, is_one, equal, shown_ten, Registered, register, beyond, registered}
 
 -- ---- a byte fits
 agrees_in : (i add msk byte : ℕ) → (agrees i add msk byte ≡ true) ↔ AgreesIn i add msk byte
@@ -180,14 +181,20 @@ sample_lowers s h image level low busy =
 abbrev is_low : Phase → Bool
 is_low ph = eqb (phase_which ph) 2
 
+eighth_between :
+    (c : Config) (l : Live) (bits : Bits) (low mark scl before sda : Bool) → bits.count ≡ 8
+    → T (eight_fit (Address bits low) (Some (wire scl before)))
+    → edge_step c l (Address bits low) (edge_between mark scl before false sda) ≡ address_byte (is_low (Address bits low)) c l bits.value
+eighth_between c l bits true mark true before sda e k = rw e refl
+eighth_between c l bits false mark true before sda e k = rw e refl
+eighth_between c l bits low mark false before sda e k = absurd (rw e at k)
+
 falls_eighth :
-    (c : Config) (l : Live) (bits : Bits) (low mark : Bool) (seen : Remembered) (sda : Bool) → bits.count ≡ 8
+    (c : Config) (l : Live) (bits : Bits) (low mark : Bool) (seen : Option Level) (sda : Bool) → bits.count ≡ 8
     → T (eight_fit (Address bits low) seen)
     → edge_step c l (Address bits low) (edge_from mark seen false sda) ≡ address_byte (is_low (Address bits low)) c l bits.value
-falls_eighth c l bits true mark (Wire true before) sda e k = rw e refl
-falls_eighth c l bits false mark (Wire true before) sda e k = rw e refl
-falls_eighth c l bits low mark (Wire false before) sda e k = absurd (rw e at k)
-falls_eighth c l bits low mark Nothing sda e k = absurd (rw e at k)
+falls_eighth c l bits low mark (Some before) sda e k = eighth_between c l bits low mark before.scl before.sda sda e k
+falls_eighth c l bits low mark Unseen sda e k = absurd (rw e at k)
 
 eighth_falls :
     (s : State) (h : Host) → ImageOf s h.state → (level : ℕ) → phase_number s.mssp.phase ≡ 1 → (bits_of s.mssp.phase).count ≡ 8
@@ -283,12 +290,17 @@ module _ (next : Next) where
   Waits m = m.phase ≡ HeldForAdd next
 
   -- SCL is pulled, so that no edge but its fall can come.
+  between_waits :
+      (c : Config) (l : Live) (ph : Phase) (mark scl before sda : Bool) → ph ≡ HeldForAdd next
+      → (edge_step c l ph (edge_between mark scl before false sda)).phase ≡ HeldForAdd next
+  between_waits c l ph mark false before sda e = e
+  between_waits c l ph mark true before sda e = ap (λ (x : Phase). (fallen c l x).phase) e
+
   edge_waits :
-      (c : Config) (l : Live) (ph : Phase) (mark : Bool) (seen : Remembered) (sda : Bool) → ph ≡ HeldForAdd next
+      (c : Config) (l : Live) (ph : Phase) (mark : Bool) (seen : Option Level) (sda : Bool) → ph ≡ HeldForAdd next
       → (edge_step c l ph (edge_from mark seen false sda)).phase ≡ HeldForAdd next
-  edge_waits c l ph mark Nothing sda e = e
-  edge_waits c l ph mark (Wire false before) sda e = e
-  edge_waits c l ph mark (Wire true before) sda e = ap (λ (x : Phase). (fallen c l x).phase) e
+  edge_waits c l ph mark Unseen sda e = e
+  edge_waits c l ph mark (Some before) sda e = between_waits c l ph mark before.scl before.sda sda e
 
   seen_waits : (on : Bool) (m : Module) (sda : Bool) → Waits m → Waits (seen_if on m false sda)
   seen_waits true m sda e = edge_waits m.config m.live m.phase m.line.mark m.line.remembered sda e
@@ -340,20 +352,35 @@ module _ (next : Next) where
   stays_on true false other = absurd (other refl)
   stays_on false value other = refl
 
+  written_waits :
+      (v : ℕ) (m : Module) → Waits m → (r : Register) → (CanEndTheHold (write_register (register_number r) v) → ⊥) → Waits (written r v m)
+  written_waits v m e Buf other = e
+  written_waits v m e Stat other = e
+  written_waits v m e Con1 other =
+      con1_waits (m.config.sspen && not (bit 5 v)) (bit 4 v) (con1_stored v m) (stays_on m.config.sspen (bit 5 v) (λ off. other (inr (refl, off)))) e
+  written_waits v m e Con2 other = e
+  written_waits v m e Con3 other = e
+  written_waits v m e Add other = absurd (other (inl refl))
+  written_waits v m e Msk other = e
+  written_waits v m e Flag other = e
+
   write_waits :
-      (v : ℕ) (m : Module) → Waits m → (number : ℕ) → (CanEndTheHold (write_register number v) → ⊥) → Waits (written (register_of number) v m)
-  write_waits v m e =
-      by_register (λ number r. (CanEndTheHold (write_register number v) → ⊥) → Waits (written r v m)) (λ other. e) (λ other. e)
-      (λ other. con1_waits (m.config.sspen && not (bit 5 v)) (bit 4 v) (con1_stored v m) (stays_on m.config.sspen (bit 5 v) (λ off. other (inr (refl, off)))) e)
-      (λ other. e) (λ other. e) (λ other. absurd (other (inl refl))) (λ other. e) (λ other. e) (λ number h other. e)
+      (v : ℕ) (m : Module) → Waits m → {number : ℕ} {known : Result Register Refusal} → Registered number known
+      → (CanEndTheHold (write_register number v) → ⊥) → Waits (write_at known v m).mssp
+  write_waits v m e (register r is) other =
+      by_choice Waits (accepted (verdict_of r v m)) {b = m} (λ t. written_waits v m e r (rw is other)) (λ t. e)
+  write_waits v m e (beyond above) other = e
+
+  read_waits : (m : Module) → Waits m → (known : Result Register Refusal) → Waits (read_at known m).mssp
+  read_waits m e (Ok r) = by_choice Waits (is_buf r) {a = emptied m} {b = m} (λ t. e) (λ t. e)
+  read_waits m e (Err why) = e
 
   call_waits : (w : Served) (c : DoorCall) → (CanEndTheHold c → ⊥) → Waits w.state.mssp → Waits (by_definition w c).left.state.mssp
   call_waits w (set_up add n) other e = absurd (other tt)
   call_waits w (read_register number) other e =
-      let m = w.state.mssp in by_choice Waits (is_buf (register_of number)) {a = emptied m} {b = m} (λ t. e) (λ t. e)
+      read_waits w.state.mssp e (register_of number)
   call_waits w (write_register number value) other e =
-      let m = w.state.mssp in
-      by_choice Waits (accepted (verdict_of (register_of number) value m)) {b = m} (λ t. write_waits value m e number other) (λ t. e)
+      write_waits value w.state.mssp e (registered number) other
   call_waits w (feed_sample level) other e = step_waits (ltb level 4) false w.state w.bytes level e
   call_waits w (call_handler start n) other e = window_waits w start n (4 ∷ []) (has_window w start n) false 0 e
   call_waits w (run_trace start n items) other e =
@@ -515,11 +542,16 @@ slot_by : (ph : Phase) → phase_number ph ≡ 4 → (slot : SlotCase) × (which
 slot_by ph e = (slot_from (phase_mark ph), which_from (phase_which ph), sym (by_number ph e))
 
 -- SCL was high where the wire's number is 2 or 3.
-was_high : (seen : Remembered) → 2 ≤ wire_byte seen → wire_byte seen ≤ 3 → (mark sda : Bool) → edge_from mark seen false sda ≡ Fall
-was_high Nothing low high mark sda = absurd (omega arith)
-was_high (Wire true before) low high mark sda = refl
-was_high (Wire false true) low high mark sda = absurd (omega arith)
-was_high (Wire false false) low high mark sda = absurd (omega arith)
+high_between :
+    (scl before : Bool) → 2 ≤ wire_byte (Some (wire scl before)) → wire_byte (Some (wire scl before)) ≤ 3 → (mark sda : Bool)
+    → edge_between mark scl before false sda ≡ Fall
+high_between true before low high mark sda = refl
+high_between false true low high mark sda = absurd (omega arith)
+high_between false false low high mark sda = absurd (omega arith)
+
+was_high : (seen : Option Level) → 2 ≤ wire_byte seen → wire_byte seen ≤ 3 → (mark sda : Bool) → edge_from mark seen false sda ≡ Fall
+was_high Unseen low high mark sda = absurd (omega arith)
+was_high (Some before) low high mark sda = high_between before.scl before.sda low high mark sda
 
 -- What look shows of where an edge left the module.
 abbrev Shows : View → Moved → Type 0

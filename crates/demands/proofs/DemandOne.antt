@@ -1,21 +1,20 @@
 -- Demand 1: one outcome for every call, nothing changed that may not be, and refusals exactly for their causes.
 use Prim.Native.Nat.{ℕ, ◌+◌, ◌/◌, ◌%◌, ◌<◌, ◌≤◌}
-use Rattle.std.specs.Prelude.{◌⊎◌, ◌↔◌, ◌≡◌, true, cond, ◌&&◌, not, eqb, leb, length}
+use Rattle.std.specs.Prelude.{◌⊎◌, ◌↔◌, ◌≡◌, true, cond, ◌&&◌, not, eqb, leb, length, Result, Err, Ok, Option, None, Some}
 use Rattle.std.proofs.Common.{inl, inr, ⊎_elim, sym, ap, ap₂, ◌∙◌, true≢false, arith, eqb-true, eq-eqb, ne_eqb, leb-false, ltb-true, ltb-false, lt-ltb, le-ltb}
 use Rattle.std.proofs.Math.Path.{refl, subst}
 use Rattle.std.proofs.Math.Bool.{Bool, false, and-false}
 use mathlib.Core.List.{List, [], ◌∷◌, map}
-use Rattle.std.proofs.Math.Option.{none as absent}
 use Rattle.std.proofs.Math.Dec.{ltb}
 use Rattle.std.proofs.lemmas.Bool.{eqb-false, lt-leb, not-true}
 use Rattle.truth.specs.Tests.{never, by_test, by_choice, and_first, and_second}
 use Rattle.items.specs.First.{first_above, FirstAbove}
 use Rattle.items.specs.Theorems.{first_above_lem, none_above}
 use Rattle.refusals.specs.declared.Refusal.{Refusal}
-use Rattle.refusals.specs.declared.Refusal.TheVariants.{NoState, NoWindow, NoItem}
-use Rattle.refusals.specs.declared.Verdict.{Verdict}
-use Rattle.refusals.specs.Numbers.{number_of, first_cause}
+use Rattle.refusals.specs.declared.Refusal.TheVariants.{NoState, NoRegister, ReservedBit, NoMode, ModeChange, MaskedTenBits, NoWindow, NoItem}
+use Rattle.refusals.specs.Numbers.{Verdict, number_of, first_cause}
 use Rattle.wire.specs.Byte.{bit}
+use Rattle.mssp.specs.declared.Module.{Module}
 use Rattle.mssp.specs.Module.{modelled, ten_bits, is_ten_bit, setup}
 use Rattle.mssp.specs.Valid.{masks_none}
 use Rattle.address.specs.declared.Hit.{Hit}
@@ -23,11 +22,10 @@ use Rattle.address.specs.Comparison.{hit_number, hit_of}
 use Rattle.register_bytes.specs.Bytes.{byte_of, sspm_of}
 use Rattle.register_bytes.proofs.Bits.{small, half_back}
 use Rattle.registers.specs.declared.Register.{Register}
-use Rattle.registers.specs.declared.Register.TheVariants.{Buf, Stat, Con1, Con2, Con3, Add, Msk, Flag, Nowhere}
-use Rattle.registers.specs.Values.{register_of, register_number, is_nowhere, is_msk, is_con1, is_con2, is_con3, value_of}
-use Rattle.writes.specs.Writes.{sets_reserved, no_mode, mode_change, masked, masked_ten}
+use Rattle.registers.specs.declared.Register.TheVariants.{Buf, Stat, Con1, Con2, Con3, Add, Msk, Flag}
+use Rattle.registers.specs.Values.{register_of, register_number, is_msk, is_con1, is_con2, is_con3, read_at}
+use Rattle.writes.specs.Writes.{sets_reserved, no_mode, mode_change, masked, masked_ten, write_at}
 use Rattle.firmware.specs.declared.State.{State}
-use Rattle.firmware.specs.declared.Made.TheVariants.{Ready, NotMade}
 use Rattle.firmware.specs.Handler.{longest_window, is_window_length, Served, served, state_of, handler_of}
 use Rattle.firmware.specs.Window.{window_of}
 use Rattle.firmware.proofs.Laws.{inside}
@@ -37,11 +35,7 @@ use Rattle.steps.specs.Step.{step_of}
 use Rattle.trace.specs.Run.{first_bad, item_if, item_at, run_of}
 use Rattle.trace.specs.Window.{SameOutside}
 use Rattle.trace.proofs.Theorems.{run_length, window_length, splice_outside}
-use Rattle.found.specs.declared.Found.{Found}
-use Rattle.found.specs.declared.Found.TheVariants.{Part, NotFound}
-use Rattle.found.specs.Numbers.{refusal_of, bad_item_of, start_of, length_of}
-use Rattle.finder.specs.declared.Whereabouts.{Whereabouts}
-use Rattle.finder.specs.declared.Whereabouts.TheVariants.{Outside, Inside}
+use Rattle.found.specs.Numbers.{Found, refusal_of, bad_item_of, start_of, length_of}
 use Rattle.finder.specs.Messages.{lies_at, end_at}
 use Rattle.finder.specs.Find.{first_bad_level, part_from, span_if, span_of}
 use Rattle.image.specs.Image.{image_length, decode_of}
@@ -76,8 +70,8 @@ keeps h (run_trace start n items) l = let k = run_keeps h.state h.buffer start n
 keeps h (draw_lanes start n levels lanes) l = let k = draw_keeps h.state h.buffer start n levels lanes l in ap₂ host k.0 k.1
 
 empty_part : (found : Found) → 0 < refusal_of found → (start_of found ≡ 0) × (length_of found ≡ 0)
-empty_part (Part start count) l = absurd (omega arith)
-empty_part (NotFound why item) l = (refl, refl)
+empty_part (Ok part) l = absurd (omega arith)
+empty_part (Err why) l = (refl, refl)
 
 -- What holds of every answer to a question which address hits, by the bytes' being no state's image or one's.
 by_hit :
@@ -258,28 +252,31 @@ shown_ten s h image =
     rw (shown_is s h image).1 (half_ten c.sspm3 c.sspm2 c.sspm1 c.sspm0)
 
 -- ---- a register by its number
--- What holds of each register with its number, and of every number above 7.
-pub by_register :
-    (P : ℕ → Register → Type 0) → P 0 Buf → P 1 Stat → P 2 Con1 → P 3 Con2 → P 4 Con3 → P 5 Add → P 6 Msk → P 7 Flag
-    → ((number : ℕ) → 7 < number → P number Nowhere) → (number : ℕ) → P number (register_of number)
-by_register P p0 p1 p2 p3 p4 p5 p6 p7 above number =
-    choose 0 (omega arith) p0 (λ h. choose 1 h p1 (λ h. choose 2 h p2 (λ h. choose 3 h p3 (λ h. choose 4 h p4 (λ h. choose 5 h p5 (λ h.
-    choose 6 h p6 (λ h. choose 7 h p7 (above number))))))))
+-- What the number of an access finds: the register that has it, or, above 7, none.
+pub data Registered (number : ℕ) : Result Register Refusal → Type 0 where
+  register : (r : Register) → register_number r ≡ number → Registered number (Ok r)
+  beyond : 7 < number → Registered number (Err NoRegister)
+
+pub registered : (number : ℕ) → Registered number (register_of number)
+registered number =
+    choose 0 (omega arith) (register Buf refl) (λ h. choose 1 h (register Stat refl) (λ h. choose 2 h (register Con1 refl) (λ h. choose 3 h (register Con2 refl) (λ h.
+    choose 4 h (register Con3 refl) (λ h. choose 5 h (register Add refl) (λ h. choose 6 h (register Msk refl) (λ h. choose 7 h (register Flag refl) beyond)))))))
   where
-    choose : (k : ℕ) {r rest : Register} → k ≤ number → P k r → (k < number → P number rest) → P number (cond (eqb number k) r rest)
-    choose k low p more =
-        by_choice (P number) (eqb number k) (λ e. rw (eqb-true number k e) p) (λ e. more (omega (arith, eqb-false number k e)))
+    choose :
+        (k : ℕ) {here rest : Result Register Refusal} → k ≤ number → Registered k here → (k < number → Registered number rest)
+        → Registered number (cond (eqb number k) here rest)
+    choose k {here} low is more =
+        by_choice (Registered number) (eqb number k) (λ e. subst (λ (n : ℕ). Registered n here) (sym (eqb-true number k e)) is) (λ e. more (omega (arith, eqb-false number k e)))
 
-register_is : (k number : ℕ) → k ≤ 7 → (eqb (register_number (register_of number)) k ≡ true) ↔ (number ≡ k)
-register_is k number low =
-    by_register (λ n r. (eqb (register_number r) k ≡ true) ↔ (n ≡ k))
-    (equal 0 k) (equal 1 k) (equal 2 k) (equal 3 k) (equal 4 k) (equal 5 k) (equal 6 k) (equal 7 k)
-    (λ n high. (λ t. absurd (omega (arith, eqb-true 8 k t)), λ e. absurd (omega arith))) number
-
-nowhere : (number : ℕ) → (is_nowhere (register_of number) ≡ true) ↔ (7 < number)
-nowhere number =
-    rw (by_register (λ n r. is_nowhere r ≡ ltb 7 n) refl refl refl refl refl refl refl refl (λ n h. sym (lt-ltb 7 n h)) number)
-    (below 7 number)
+up_to_seven : (r : Register) → register_number r ≤ 7
+up_to_seven Buf = omega arith
+up_to_seven Stat = omega arith
+up_to_seven Con1 = omega arith
+up_to_seven Con2 = omega arith
+up_to_seven Con3 = omega arith
+up_to_seven Add = omega arith
+up_to_seven Msk = omega arith
+up_to_seven Flag = omega arith
 
 level_verdict_lem :
     (s : State) (bytes : List ℕ) (level : ℕ) → level_verdict level ≡ (step_of s bytes (item_if (ltb level 4) false level)).verdict
@@ -288,17 +285,17 @@ level_verdict_lem s bytes level =
     (λ t. let h = ltb-false 3 level t in rw (t, lt-ltb level 4 (omega arith)))
 
 -- ---- what the tests of a write tell
-module _ (number v : ℕ) where
-  abbrev r : Register
-  r = register_of number
+module _ {number : ℕ} (r : Register) (is : register_number r ≡ number) (v : ℕ) where
+  register_is : (k : ℕ) → (eqb (register_number r) k ≡ true) ↔ (number ≡ k)
+  register_is k = (λ t. sym is ∙ eqb-true (register_number r) k t, λ e. eq-eqb (register_number r) k (is ∙ e))
 
   con1 : (is_con1 r ≡ true) ↔ (number ≡ 2)
-  con1 = register_is 2 number (omega arith)
+  con1 = register_is 2
 
   reserved : (sets_reserved r v ≡ true) ↔ SetsReserved number v
   reserved =
-      let three = register_is 3 number (omega arith) in
-      let boen = both (is_con3 r) (bit 4 v) (register_is 4 number (omega arith)) (is_one (bit 4 v)) in
+      let three = register_is 3 in
+      let boen = both (is_con3 r) (bit 4 v) (register_is 4) (is_one (bit 4 v)) in
       let master = not_equal (v / 2 % 16) 0 in (
         λ t. by_test (is_con2 r) (λ e. inl (three.0 e, master.0 (rw e at t))) (λ e. inr (boen.0 (rw e at t))),
         ⊎_elim (λ k. rw (three.1 k.0) (master.1 k.1))
@@ -326,7 +323,7 @@ module _ (number v : ℕ) where
       (h : Host) (s : State) → ImageOf s h.state → (masked_ten r v s.mssp.config ≡ true) ↔ MasksTenBits h number v
   masked_ten_lem h s image =
       let c = s.mssp.config in
-      let six = register_is 6 number (omega arith) in
+      let six = register_is 6 in
       let runs = both _ (not (masks_none v)) (both c.sspen (is_ten_bit c) (is_one c.sspen) (shown_ten s h image)) (not_equal v 255) in
       let ten : Bool = ten_bits (bit 2 v) (bit 1 v) (bit 0 v) in
       let mask : ℕ = c.msk in
@@ -355,7 +352,7 @@ module _ (h : Host) where
   setup_looks :
       (add n : ℕ) (s : State) (long good : Bool) → (not long ≡ true) ↔ (length h.state ≡ image_length → ⊥)
       → (not good ≡ true) ↔ ((n ≡ 0) ⊎ (longest_window < n))
-      → let answer : Answer = (setup_if long (cond good (Ready s) (NotMade NoWindow)) h.state).answer in
+      → let answer : Answer = (setup_if long (cond good (Ok s) (Err NoWindow)) h.state).answer in
       FirstOf (Beside (set_up add n)) (causes h (set_up add n)) answer.refusal answer.item
   setup_looks add n s false good six five = here (six.0 refl) (λ e. refl, λ e. refl)
   setup_looks add n s true false six five = later (λ g. never (six.1 g)) (here (five.0 refl) (λ e. refl, λ e. refl))
@@ -372,7 +369,7 @@ module _ (h : Host) where
 
   -- 6 where there is no state, else what is looked at on the state.
   on_image :
-      {rest : List Cause} (c : DoorCall) → (decode_of h.state ≡ absent → at_door h c ≡ reply (refused NoState 0) h)
+      {rest : List Cause} (c : DoorCall) → (decode_of h.state ≡ None → at_door h c ≡ reply (refused NoState 0) h)
       → ((s : State) → ImageOf s h.state
       → let answer : Answer = (by_definition (served s h.buffer) c).answer in FirstOf (Beside c) rest answer.refusal answer.item)
       → FirstOf (Beside c) ((NoState when ImageOfNone h.state) ∷ rest) (at_door h c).answer.refusal (at_door h c).answer.item
@@ -380,6 +377,23 @@ module _ (h : Host) where
       by_image h c six (λ r. FirstOf (Beside c) ((NoState when ImageOfNone h.state) ∷ rest) r.answer.refusal r.answer.item)
       (λ nobody. here nobody (no_item 6 (λ e. omega arith)))
       (λ s image. later (λ nobody. nobody s image) (looks s image))
+
+  read_looks :
+      (m : Module) {number : ℕ} {known : Result Register Refusal} → Registered number known
+      → let answer : Answer = told (read_at known m).verdict in
+      FirstOf (λ item. item ≡ 0) ((NoRegister when 7 < number) ∷ []) answer.refusal answer.item
+  read_looks m (register r is) = later (λ above. absurd (omega (arith, is, up_to_seven r))) none
+  read_looks m (beyond above) = here above (λ e. refl, λ e. refl)
+
+  write_looks :
+      (s : State) → ImageOf s h.state → (value : ℕ) {number : ℕ} {known : Result Register Refusal} → Registered number known
+      → let answer : Answer = told (write_at known value s.mssp).verdict in
+      FirstOf (λ item. item ≡ 0) ((NoRegister when 7 < number) ∷ (ReservedBit when SetsReserved number value) ∷ (NoMode when SetsNoMode number value) ∷ (ModeChange when ChangesMode h number value) ∷ (MaskedTenBits when MasksTenBits h number value) ∷ []) answer.refusal answer.item
+  write_looks s image value (register r is) =
+      later (λ above. absurd (omega (arith, is, up_to_seven r)))
+      (by_tests 0
+      (one (reserved r is value) (one (no_mode_lem r is value) (one (mode_change_lem r is value h s image) (one (masked_ten_lem r is value h s image) all)))))
+  write_looks s image value (beyond above) = here above (λ e. refl, λ e. refl)
 
   looked : (c : DoorCall) → Looks c
   unfolding by_state
@@ -389,13 +403,11 @@ module _ (h : Host) where
   looked (read_register number) =
       on_image (read_register number) (λ e. rw e)
       (λ s image.
-      by_tests (value_of s.mssp (register_of number)) (one (nowhere number) all))
+      read_looks s.mssp (registered number))
   looked (write_register number value) =
       on_image (write_register number value) (λ e. rw e)
       (λ s image.
-      by_tests 0
-      (one (nowhere number) (one (reserved number value) (one (no_mode_lem number value) (one (mode_change_lem number value h s image)
-      (one (masked_ten_lem number value h s image) all))))))
+      write_looks s image value (registered number))
   looked (feed_sample level) =
       on_image (feed_sample level) (λ e. rw e)
       (λ s image.
@@ -431,10 +443,10 @@ look_looks refusal nothing work bytes six zero =
     (image_or_none bytes)
 
 part_looks :
-    {named : ℕ → Type 0} {list : List Cause} (lies : Whereabouts) (item end : ℕ) → FirstOf named list 0 0
+    {named : ℕ → Type 0} {list : List Cause} (lies : Option ℕ) (item end : ℕ) → FirstOf named list 0 0
     → FirstOf named list (refusal_of (part_from lies item end)) (bad_item_of (part_from lies item end))
-part_looks Outside item end first = first
-part_looks (Inside start) item end first = first
+part_looks None item end first = first
+part_looks (Some start) item end first = first
 
 find_looks :
     (levels : List ℕ) (item : ℕ) (bad in-it : Bool) → bad ≡ ltb (first_bad_level levels) (length levels) → in-it ≡ ltb item (length levels)

@@ -1,6 +1,6 @@
 -- Set up, and fed through the door: the registers after setup; a run is the calls one after the other, however its items are fed;
 -- demand 3, and that no byte is refused there.
-use Rattle.std.specs.Prelude.{ℕ, ◌+◌, ◌≤◌, ◌≡◌, refl, Bool, true, false, cond, ◌||◌, T, eqb, ltb, length, take, drop}
+use Rattle.std.specs.Prelude.{ℕ, ◌+◌, ◌≤◌, ◌≡◌, refl, Bool, true, false, cond, ◌||◌, T, eqb, ltb, length, take, drop, Err, Ok}
 use Rattle.std.proofs.Common.{sym, ◌∙◌, subst, true≢false, arith, take-append-drop, length-append, length-drop, length-take-le, take_at, drop_at, get_or-append-add, ltb-false, lt-ltb, le-ltb, eq-eqb, le-leb}
 use Rattle.std.proofs.Math.Path.{ap}
 use mathlib.Core.List.{List, [], ◌∷◌, map, ◌++◌}
@@ -20,7 +20,6 @@ use Rattle.sampling.specs.Rules.{seen_if}
 use Rattle.register_bytes.specs.Bytes.{sspm_of}
 use Rattle.register_bytes.proofs.Bits.{bits_back}
 use Rattle.firmware.specs.declared.State.{State}
-use Rattle.firmware.specs.declared.Made.TheVariants.{Ready, NotMade}
 use Rattle.firmware.specs.Handler.{is_window_length, Served, served, state_of, handler_of, acknowledged, serve, called_if}
 use Rattle.firmware.specs.Window.{window_of, splice, in_buffer}
 use Rattle.firmware.proofs.Laws.{within_length, inside}
@@ -52,7 +51,7 @@ made_for add n = state_of (setup add) (handler_of n 0 false)
 
 module _ (bytes : List ℕ) (add n : ℕ) where
   made_if :
-      (long good : Bool) → let o : Outcome = setup_if long (cond good (Ready (made_for add n)) (NotMade NoWindow)) bytes in
+      (long good : Bool) → let o : Outcome = setup_if long (cond good (Ok (made_for add n)) (Err NoWindow)) bytes in
       o.answer.refusal ≡ 0 → o ≡ outcome (done 0) (encode_of (made_for add n))
   made_if false good e = absurd (omega arith)
   made_if true false e = absurd (omega arith)

@@ -1,27 +1,23 @@
 -- Demand 2: after every list of calls the bytes are the image of the state that the definitions give.
-use Rattle.std.specs.Prelude.{ℕ, ◌%◌, ◌⊎◌, ◌≡◌, Bool, List, [], ◌∷◌, map, T, ltb, length}
+use Rattle.std.specs.Prelude.{ℕ, ◌%◌, ◌⊎◌, ◌≡◌, Bool, List, [], ◌∷◌, map, T, ltb, length, Err, Ok, Result, Option, Some, None}
 use Rattle.std.proofs.Common.{inl, inr, ⊎_elim, sym, ap, subst, ◌∙◌, true≢false, arith, eqb-true, eq-eqb, ltb-true, ltb-false, lt-ltb, le-ltb}
 use Rattle.std.proofs.Math.Path.{refl}
 use Rattle.std.proofs.Math.Bool.{true, false}
-use Rattle.std.proofs.Math.Option.{Option, none, some, none-ne-some}
+use Rattle.std.proofs.lemmas.Option.{none-some}
 use Rattle.truth.specs.Tests.{by_test}
+use Rattle.refusals.specs.declared.Refusal.{Refusal}
 use Rattle.refusals.specs.declared.Refusal.TheVariants.{NoState}
-use Rattle.refusals.specs.declared.Verdict.{Verdict}
-use Rattle.refusals.specs.declared.Verdict.TheVariants.{Done, Refused}
-use Rattle.refusals.specs.Numbers.{accepted}
+use Rattle.refusals.specs.Numbers.{Verdict, accepted}
 use Rattle.wire.specs.Byte.{bit}
 use Rattle.mssp.specs.declared.Module.{Module}
 use Rattle.address.specs.Comparison.{hit_number, hit_of}
 use Rattle.register_bytes.specs.Bytes.{con1_of, sspm_of}
 use Rattle.register_bytes.proofs.Bits.{bits_back, packed_half}
-use Rattle.registers.specs.declared.Access.{Access}
 use Rattle.registers.specs.declared.Register.{Register}
-use Rattle.registers.specs.Values.{register_of, register_number, is_nowhere, value_of, read_verdict, after_read, read_of}
+use Rattle.registers.specs.Values.{Access, register_of, read_at, read_of}
 use Rattle.writes.specs.Writes.{write_of}
 use Rattle.readback.proofs.Readback.{refused_leaves}
 use Rattle.firmware.specs.declared.State.{State}
-use Rattle.firmware.specs.declared.Made.{Made}
-use Rattle.firmware.specs.declared.Made.TheVariants.{Ready, NotMade}
 use Rattle.firmware.specs.Handler.{Served, served, state_of, setup_of}
 use Rattle.firmware.specs.Window.{window_fits, window_of, splice, in_buffer, call_of, call_choice}
 use Rattle.steps.specs.declared.Item.TheVariants.{Call}
@@ -90,9 +86,9 @@ shown_is s h image =
 
 -- ---- one call
 -- A read that is refused leaves the module as it was.
-read_refused : (r : Register) (held : ℕ) (m : Module) → accepted (read_verdict r held) ≡ false → after_read r m ≡ m
-read_refused r held m e =
-    by_test (is_nowhere r) (λ t. rw (eqb-true (register_number r) 8 t)) (λ t. absurd (true≢false (rw t at e)))
+read_refused : (known : Result Register Refusal) (m : Module) → accepted (read_at known m).verdict ≡ false → (read_at known m).mssp ≡ m
+read_refused (Ok r) m e = absurd (true≢false e)
+read_refused (Err why) m e = refl
 
 abbrev unlent : List ℕ → Outcome → Reply Host
 unlent buffer o = reply o.answer (host o.state buffer)
@@ -111,12 +107,12 @@ module _ (w : Served) where
   settles :
       (v : Verdict) (next : State) → (accepted v ≡ false → next ≡ s)
       → unlent w.bytes (settled v 0 (encode_of next) bytes) ≡ image_reply (reply (told v) (served next w.bytes))
-  settles (Done value) next same = refl
-  settles (Refused why) next same = rw (same refl)
+  settles (Ok value) next same = refl
+  settles (Err why) next same = rw (same refl)
 
-  made : (m : Made) → unlent w.bytes (setup_if true m bytes) ≡ image_reply (made_of m w)
-  made (Ready next) = refl
-  made (NotMade why) = refl
+  made : (m : Result State Refusal) → unlent w.bytes (setup_if true m bytes) ≡ image_reply (made_of m w)
+  made (Ok next) = refl
+  made (Err why) = refl
 
   sampled :
       (level : ℕ)
@@ -164,8 +160,7 @@ module _ (w : Served) where
     one_call : (c : DoorCall) → at_door (image_host w) c ≡ image_reply (by_definition w c)
     one_call (set_up add n) = rw (eq-eqb (length bytes) image_length (encode_length s)) (made (setup_of add n))
     one_call (read_register number) =
-        let r = register_of number in
-        accesses (λ m. read_of m number) (read_refused r (value_of s.mssp r) s.mssp)
+        accesses (λ m. read_of m number) (read_refused (register_of number) s.mssp)
     one_call (write_register number value) = accesses (λ m. write_of m number value) (refused_leaves number value s.mssp)
     one_call (feed_sample level) =
         ap (unlent w.bytes) (on_state (no_state bytes) (λ t. settled (level_verdict level) 0 (encode_of (sampled_by t level)) bytes) s v)
@@ -184,12 +179,12 @@ module _ (w : Served) where
 
 -- Bytes are no state's image, or that of one.
 pub image_or_none :
-    (bytes : List ℕ) → ((decode_of bytes ≡ none) × ImageOfNone bytes) ⊎ ((s : State) × (decode_of bytes ≡ some s) × ImageOf s bytes)
+    (bytes : List ℕ) → ((decode_of bytes ≡ None) × ImageOfNone bytes) ⊎ ((s : State) × (decode_of bytes ≡ Some s) × ImageOf s bytes)
 image_or_none bytes = by (decode_of bytes) refl
   where
-    by : (found : Option State) → decode_of bytes ≡ found → ((decode_of bytes ≡ none) × ImageOfNone bytes) ⊎ ((s : State) × (decode_of bytes ≡ some s) × ImageOf s bytes)
-    by none e = inl (e, λ s image. none-ne-some s (sym e ∙ (decode_exactly bytes s).1 image))
-    by (some s) e = inr (s, e, (decode_exactly bytes s).0 e)
+    by : (found : Option State) → decode_of bytes ≡ found → ((decode_of bytes ≡ None) × ImageOfNone bytes) ⊎ ((s : State) × (decode_of bytes ≡ Some s) × ImageOf s bytes)
+    by None e = inl (e, λ s image. none-some s (sym e ∙ (decode_exactly bytes s).1 image))
+    by (Some s) e = inr (s, e, (decode_exactly bytes s).0 e)
 
 -- On the image of a state a call does what the definitions say of that state.
 pub at_image : (s : State) (h : Host) (c : DoorCall) → ImageOf s h.state → at_door h c ≡ image_reply (by_definition (served s h.buffer) c)
@@ -199,7 +194,7 @@ at_image s h c image =
 
 -- What holds of a call that answers 6 where there is no state, and else works on the state whose image the bytes are.
 pub by_image {ℓ} :
-    (h : Host) (c : DoorCall) → (decode_of h.state ≡ none → at_door h c ≡ reply (refused NoState 0) h) → (P : Reply Host → Type ℓ)
+    (h : Host) (c : DoorCall) → (decode_of h.state ≡ None → at_door h c ≡ reply (refused NoState 0) h) → (P : Reply Host → Type ℓ)
     → (ImageOfNone h.state → P (reply (refused NoState 0) h))
     → ((s : State) → ImageOf s h.state → P (image_reply (by_definition (served s h.buffer) c))) → P (at_door h c)
 by_image h c six P p q =

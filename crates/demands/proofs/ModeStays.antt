@@ -1,9 +1,10 @@
 -- While SSPEN stays 1, no list of calls changes SSPM (02, 6).
 use Rattle.demands.specs.ModeStays.{KeepsMode}
-use Rattle.std.specs.Prelude.{ℕ, ◌%◌, ◌≡◌, refl, Bool, true, false, ◌&&◌, not, List, [], ◌∷◌, map, eqb, ltb, length}
+use Rattle.std.specs.Prelude.{ℕ, ◌%◌, ◌≡◌, refl, Bool, true, false, ◌&&◌, not, Result, Ok, Err, List, [], ◌∷◌, map, eqb, ltb, length}
 use Rattle.std.proofs.Common.{⊎_elim, sym, ap, ◌∙◌, eqb-true}
 use Rattle.std.proofs.lemmas.Bool.{not-false}
 use Rattle.truth.specs.Tests.{never, by_choice}
+use Rattle.refusals.specs.declared.Refusal.{Refusal}
 use Rattle.refusals.specs.Numbers.{accepted}
 use Rattle.refusals.specs.Laws.{none-holds}
 use Rattle.wire.specs.Byte.{bit}
@@ -12,9 +13,9 @@ use Rattle.effects.specs.Effects.{emptied}
 use Rattle.register_bytes.specs.Bytes.{sspm_of}
 use Rattle.register_bytes.proofs.Bits.{half_back}
 use Rattle.registers.specs.declared.Register.{Register}
-use Rattle.registers.specs.declared.Register.TheVariants.{Con1}
-use Rattle.registers.specs.Values.{register_of, is_buf}
-use Rattle.writes.specs.Writes.{con1_stored, con1_then, written, write_causes, verdict_of}
+use Rattle.registers.specs.declared.Register.TheVariants.{Buf, Stat, Con1, Con2, Con3, Add, Msk, Flag}
+use Rattle.registers.specs.Values.{register_of, is_buf, read_at}
+use Rattle.writes.specs.Writes.{con1_stored, con1_then, written, write_causes, verdict_of, write_at}
 use Rattle.firmware.specs.declared.State.{State}
 use Rattle.firmware.specs.Handler.{Served, served}
 use Rattle.firmware.specs.Window.{window_of}
@@ -24,7 +25,6 @@ use Rattle.lanes.specs.Lanes.{driven}
 use Rattle.items.specs.First.{first_above}
 use Rattle.demands.specs.Calls.{DoorCall, set_up, read_register, write_register, feed_sample, call_handler, run_trace, Host, left_after, at_door, has_window, in_window, by_definition, ImageOf, shown_con1, StaysEnabled, draw_lanes, drawn_levels}
 use Rattle.demands.specs.Demands.{ModeStays}
-use Rattle.demands.proofs.DemandOne.{by_register}
 use Rattle.demands.proofs.DemandTwo.{shown_is, image_or_none, demand_two}
 use Rattle.demands.proofs.DemandThree.{unmoved, step_stands, run_stands}
 
@@ -42,13 +42,28 @@ module _ (v : ℕ) (m : Module) where
   con1_mode a on stays =
       let c = m.config in
       let is = con1_config_lem (c.sspen && not (bit 5 v)) (bit 4 v) (con1_stored v m) in
-      let same = rw (on, rw is at stays) at (none-holds 0 (write_causes Con1 v m) a).1.1.1.0 in
+      let same = rw (on, rw is at stays) at (none-holds 0 (write_causes Con1 v m) a).1.1.0 in
       rw is (half_back v ∙ eqb-true (v % 16) (sspm_of c) (not-false (eqb (v % 16) (sspm_of c)) same))
 
-  write_mode : (number : ℕ) → TakenKeepsMode (register_of number)
-  write_mode =
-      by_register (λ number r. TakenKeepsMode r) (λ a on stays. refl) (λ a on stays. refl) con1_mode (λ a on stays. refl) (λ a on stays. refl)
-      (λ a on stays. refl) (λ a on stays. refl) (λ a on stays. refl) (λ number h a on stays. refl)
+  written_mode : (r : Register) → TakenKeepsMode r
+  written_mode Buf a on stays = refl
+  written_mode Stat a on stays = refl
+  written_mode Con1 a on stays = con1_mode a on stays
+  written_mode Con2 a on stays = refl
+  written_mode Con3 a on stays = refl
+  written_mode Add a on stays = refl
+  written_mode Msk a on stays = refl
+  written_mode Flag a on stays = refl
+
+  write_mode : (known : Result Register Refusal) → KeepsMode m.config (write_at known v m).mssp.config
+  write_mode (Ok r) on stays =
+      by_choice (λ (n : Module). KeepsMode m.config n.config) (accepted (verdict_of r v m)) (written_mode r) (λ e on stays. refl) on stays
+  write_mode (Err why) on stays = refl
+
+read_mode : (m : Module) (known : Result Register Refusal) → sspm_of (read_at known m).mssp.config ≡ sspm_of m.config
+read_mode m (Ok r) =
+    by_choice (λ (n : Module). sspm_of n.config ≡ sspm_of m.config) (is_buf r) {a = emptied m} {b = m} (λ e. refl) (λ e. refl)
+read_mode m (Err why) = refl
 
 -- ---- every call but a setup
 window_stands :
@@ -62,12 +77,8 @@ call_mode :
     (w : Served) (c : DoorCall) → ((add n : ℕ) → c ≡ set_up add n → ⊥)
     → KeepsMode w.state.mssp.config (by_definition w c).left.state.mssp.config
 call_mode w (set_up add n) other on stays = absurd (other add n refl)
-call_mode w (read_register number) other on stays =
-    let m = w.state.mssp in
-    by_choice (λ (n : Module). sspm_of n.config ≡ sspm_of m.config) (is_buf (register_of number)) {a = emptied m} {b = m} (λ e. refl) (λ e. refl)
-call_mode w (write_register number value) other on stays =
-    let m = w.state.mssp in let r = register_of number in
-    by_choice (λ (n : Module). KeepsMode m.config n.config) (accepted (verdict_of r value m)) (write_mode value m number) (λ e on stays. refl) on stays
+call_mode w (read_register number) other on stays = read_mode w.state.mssp (register_of number)
+call_mode w (write_register number value) other on stays = write_mode value w.state.mssp (register_of number) on stays
 call_mode w (feed_sample level) other on stays =
     ap (λ (x : ℕ × ℕ). x.1) (step_stands (ltb level 4) false w.state w.bytes level)
 call_mode w (call_handler start n) other on stays =

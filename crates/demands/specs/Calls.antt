@@ -1,12 +1,10 @@
 -- The words of the demands: a host's call, what it answers and leaves at the door and by the definitions, and the causes of each
 -- refusal (01, "Calls, refusals and their order"; 02, 1, 6 and 9).
-use Rattle.std.specs.Prelude.{ℕ, ◌+◌, ◌/◌, ◌%◌, ◌^◌, ◌<◌, ◌≤◌, ◌⊎◌, ◌↔◌, ◌≡◌, Bool, true, false, cond, ◌&&◌, not, List, [], ◌∷◌, ◌++◌, map, T, eqb, ltb, length, take, get_or}
+use Rattle.std.specs.Prelude.{ℕ, ◌+◌, ◌/◌, ◌%◌, ◌^◌, ◌<◌, ◌≤◌, ◌⊎◌, ◌↔◌, ◌≡◌, Bool, true, false, cond, ◌&&◌, not, List, [], ◌∷◌, ◌++◌, map, T, eqb, ltb, length, take, get_or, Err, Ok, Result}
 use Rattle.items.specs.First.{first_above, FirstAbove, NoneAbove}
 use Rattle.refusals.specs.declared.Refusal.{Refusal}
 use Rattle.refusals.specs.declared.Refusal.TheVariants.{NoState, NoRegister, ReservedBit, NoMode, ModeChange, MaskedTenBits, NoWindow, NoItem, PastRecord}
-use Rattle.refusals.specs.declared.Verdict.{Verdict}
-use Rattle.refusals.specs.declared.Verdict.TheVariants.{Done, Refused}
-use Rattle.refusals.specs.Numbers.{number_of}
+use Rattle.refusals.specs.Numbers.{Verdict, number_of}
 use Rattle.wire.specs.declared.Edge.{Edge}
 use Rattle.wire.specs.declared.Edge.TheVariants.{Still}
 use Rattle.wire.specs.Byte.{bit}
@@ -18,8 +16,6 @@ use Rattle.register_bytes.specs.Bytes.{byte_of}
 use Rattle.registers.specs.Values.{read_of}
 use Rattle.writes.specs.Writes.{write_of}
 use Rattle.firmware.specs.declared.State.{State}
-use Rattle.firmware.specs.declared.Made.{Made}
-use Rattle.firmware.specs.declared.Made.TheVariants.{Ready, NotMade}
 use Rattle.firmware.specs.Handler.{longest_window, Served, served, setup_of}
 use Rattle.firmware.specs.Window.{window_fits, window_of, in_buffer}
 use Rattle.steps.specs.declared.Item.{Item}
@@ -97,8 +93,8 @@ at_door h c =
 
 -- ---- by the definitions: one step for each item, on a state and the whole buffer
 abbrev pub told : Verdict → Answer
-told (Done value) = done value
-told (Refused why) = refused why 0
+told (Ok value) = done value
+told (Err why) = refused why 0
 
 abbrev pub step_by : Served → Item → Reply Served
 step_by w item =
@@ -116,9 +112,9 @@ in_window true false item w start n items =
 abbrev pub has_window : Served → ℕ → ℕ → Bool
 has_window w start n = window_fits (length w.bytes) start n w.state.handler.n
 
-abbrev pub made_of : Made → Served → Reply Served
-made_of (Ready s) w = reply (done 0) (served s w.bytes)
-made_of (NotMade why) w = reply (refused why 0) w
+abbrev pub made_of : Result State Refusal → Served → Reply Served
+made_of (Ok s) w = reply (done 0) (served s w.bytes)
+made_of (Err why) w = reply (refused why 0) w
 
 abbrev pub by_definition : Served → DoorCall → Reply Served
 by_definition w (set_up add n) = made_of (setup_of add n) w
@@ -364,8 +360,8 @@ word_seen before met after level =
 -- ---- a firmware: register accesses and nothing else
 -- What a register shows; what a read and a write of it leave.
 abbrev pub value_shown : Verdict → ℕ
-value_shown (Done value) = value
-value_shown (Refused why) = 0
+value_shown (Ok value) = value
+value_shown (Err why) = 0
 
 abbrev pub shows : ℕ → Module → ℕ
 shows number m = value_shown (read_of m number).verdict

@@ -1,8 +1,7 @@
 -- What a search and a drawing answer, for every input (01, "Calls, refusals and their order"). What the other functions of the door
 -- do stands in `module_calls` and in `firmware_calls`.
 use Rattle.std.specs.Prelude.{ℕ, cond, List, eqb, length}
-use Rattle.found.specs.declared.Found.{Found}
-use Rattle.found.specs.Numbers.{refusal_of, bad_item_of, start_of, length_of}
+use Rattle.found.specs.Numbers.{Found, refusal_of, bad_item_of, start_of, length_of}
 use Rattle.finder.specs.Find.{span_of}
 use Rattle.lanes.specs.Lanes.{shorter_of}
 use Rattle.settling.specs.declared.Answer.{Answer}

@@ -6,12 +6,14 @@ ghost use Rattle.std.specs.Prelude.{◌≡◌};
 ghost use Rattle.settling.specs.Outcome.{outcome, lent};
 ghost use Rattle.firmware_calls.specs.Calls.{door_setup, door_call, door_run};
 ghost use Rattle.module_calls.specs.Calls.{door_read, door_write, door_sample, door_look, door_hit};
-ghost use Rattle.door.specs.Door.{door_find, taken_of, drawn, door_draw};
+ghost use Rattle.door.specs.Door.{part_answer, door_find, taken_of, drawn, door_draw};
 
+use found::Found;
 use settling::Answer;
 use view::View;
 
 // A part of the caller's record; beside refusal 4 the first bad item. Refused, the part is empty and at 0.
+// Stays: the C interface.
 #[repr(C)]
 #[derive(Clone, Copy)]
 pub struct Part {
@@ -21,7 +23,21 @@ pub struct Part {
     pub length: u64,
 }
 
+impl From<Found> for Part {
+    ghost from_gives = { λ found part. part ≡ part_answer found };
+
+    fn from(found: Found) -> Part {
+        Part {
+            refusal: u32::from(found::refusal_number(found)),
+            item: found::bad_item(found),
+            start: found::start_of(found),
+            length: found::length_of(found),
+        }
+    }
+}
+
 // How far a drawing went: so many items taken, so many words written. Refused, none; beside refusal 4 the first bad item.
+// Stays: the C interface.
 #[repr(C)]
 #[derive(Clone, Copy)]
 pub struct Taken {
@@ -126,15 +142,5 @@ pub fn wherryoar_hit(state: &[u8], byte: u8) -> Answer
 pub fn wherryoar_find(levels: &[u8], item: u64) -> Part
     ensures { result ≡ door_find levels.now item }
 {
-    let found = finder::span(levels, item);
-    let refusal = found::refusal_number(found);
-    let bad = found::bad_item(found);
-    let start = found::start_of(found);
-    let length = found::length_of(found);
-    Part {
-        refusal: refusal as u32,
-        item: bad,
-        start: start,
-        length: length,
-    }
+    finder::span(levels, item).into()
 }

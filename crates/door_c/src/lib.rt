@@ -1,6 +1,8 @@
 // The door as C calls it: each function of `door` under its own name. What it promises is what door promises.
 #![tactic(auto)]
 
+// Stays: the C interface: a crate is a library or a static library, and doorkept and demands rest on door.
+
 ghost use Rattle.std.specs.Prelude.{◌≡◌};
 ghost use Rattle.settling.specs.Outcome.{outcome, lent};
 ghost use Rattle.firmware_calls.specs.Calls.{door_setup, door_call, door_run};

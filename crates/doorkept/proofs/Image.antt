@@ -1,23 +1,21 @@
 -- An accepted call through the door leaves a state's image, and a refused one the image that was there: a host that keeps to
 -- the door never loses its state.
-use Rattle.std.specs.Prelude.{ℕ, ◌≡◌, refl, Bool, true, false, List, T, eqb, ltb, length}
+use Rattle.std.specs.Prelude.{ℕ, ◌≡◌, refl, Bool, true, false, List, T, eqb, ltb, length, Err, Ok, Result, Some}
 use Rattle.std.proofs.Common.{sym, subst, ltb→lt, lt→ltb}
-use Rattle.std.proofs.Math.Option.{some}
 use Rattle.std.proofs.Math.Facts.{and_yes}
 use Rattle.truth.specs.Tests.{and_both}
+use Rattle.refusals.specs.declared.Refusal.{Refusal}
 use Rattle.refusals.specs.declared.Refusal.TheVariants.{NoState}
 use Rattle.wire.specs.Wire.{scl_of, sda_of}
 use Rattle.mssp.specs.declared.Module.{Module}
 use Rattle.mssp.specs.Valid.{valid}
 use Rattle.mssp.specs.Laws.{clauses, test}
-use Rattle.registers.specs.declared.Access.{Access}
+use Rattle.registers.specs.Values.{Access}
 use Rattle.registers.specs.Values.{read_of}
 use Rattle.writes.specs.Writes.{write_of}
 use Rattle.kept.proofs.Kept.{sample_kept, access_read_kept, access_write_kept}
 use Rattle.firmware.specs.declared.Handler.{Handler}
 use Rattle.firmware.specs.declared.State.{State}
-use Rattle.firmware.specs.declared.Made.{Made}
-use Rattle.firmware.specs.declared.Made.TheVariants.{Ready, NotMade}
 use Rattle.firmware.specs.Handler.{is_window_length, state_of, setup_of}
 use Rattle.firmware.specs.Window.{window_fits, window_of, WindowOutcome, call_of, call_choice}
 use Rattle.firmware.proofs.Laws.{length_within, within_length}
@@ -63,11 +61,11 @@ image_of s v = record { of = s; decodes = decode_encode s (state_test s v) }
 
 -- ---- an accepted call leaves an image
 setup_if_lem :
-    (fits : Bool) (made : Made) (bytes : List ℕ) → MakesValid made
+    (fits : Bool) (made : Result State Refusal) (bytes : List ℕ) → MakesValid made
     → Leaves decode_of (setup_if fits made bytes)
 setup_if_lem false made bytes good = refused_never_accepted decode_of NoState 0 bytes
-setup_if_lem true (NotMade why) bytes good = refused_never_accepted decode_of why 0 bytes
-setup_if_lem true (Ready s) bytes good = λ e. image_of s (good s refl)
+setup_if_lem true (Err why) bytes good = refused_never_accepted decode_of why 0 bytes
+setup_if_lem true (Ok s) bytes good = λ e. image_of s (good s refl)
 
 call_if :
     (s : State) (buffer : List ℕ) (start n : ℕ) (fits : Bool) → ValidState s
@@ -80,7 +78,7 @@ setup_leaves bytes add n = setup_if_lem (eqb (length bytes) image_length) (setup
 
 module _ (bytes : List ℕ) where
   -- The bytes decode to the state that is worked on, so it is valid.
-  given : (s : State) → decode_of bytes ≡ some s → ValidState s
+  given : (s : State) → decode_of bytes ≡ Some s → ValidState s
   given s e = state_clauses s (decode_valid bytes s e)
 
   access_kept :

@@ -1,15 +1,14 @@
 -- `lies_at` and `end_at` find exactly the messages: an item lies inside one if and only if that one is under way there,
 -- and the end found makes it whole.
-use Rattle.std.specs.Prelude.{ℕ, zero, suc, ◌+◌, ◌-◌, ◌<◌, ◌≤◌, ◌≡◌, refl, List, Bool, true, false, cond, ◌||◌, length}
+use Rattle.std.specs.Prelude.{ℕ, zero, suc, ◌+◌, ◌-◌, ◌<◌, ◌≤◌, ◌≡◌, refl, List, Bool, true, false, cond, ◌||◌, length, None, Some}
 use Rattle.std.proofs.Common.{sym, ap, ◌∙◌, inl, inr, ⊎_elim, arith, eq-or-lt_of_le}
 use Rattle.std.proofs.Math.Decide.{dec_lt}
-use Rattle.finder.specs.declared.Whereabouts.TheVariants.{Outside, Inside}
 use Rattle.finder.specs.Messages.{line_before, edge_at, start_at, stop_at, lies_by, lies_at, end_from, end_at, UnderWay, IsMessage}
 
 not_both_lem : {b : Bool} → b ≡ true → b ≡ false → ⊥
 not_both_lem t f = let z : ◌≡◌ {A = ℕ} 0 1 = cc in omega arith
 
-pub outside_inside : {start : ℕ} → Outside ≡ Inside start → ⊥
+pub outside_inside : {start : ℕ} → None ≡ Some start → ⊥
 outside_inside e = let z : ◌≡◌ {A = ℕ} 0 1 = cc in omega arith
 
 -- A message under way is so at its Start, goes on to the next item, and was so at each before.
@@ -41,13 +40,13 @@ way_back item w h g = record {
 
 -- The message of an item that lies inside is under way there.
 lies_way : {levels : List ℕ} {item start : ℕ} (a b : Bool) → start_at levels (suc item) ≡ a → stop_at levels item ≡ b
-    → (lies_at levels item ≡ Inside start → UnderWay levels start item)
-    → lies_by a b (lies_at levels item) (suc item) ≡ Inside start → UnderWay levels start (suc item)
+    → (lies_at levels item ≡ Some start → UnderWay levels start item)
+    → lies_by a b (lies_at levels item) (suc item) ≡ Some start → UnderWay levels start (suc item)
 lies_way {item = item} {start = start} true b p q before e = let s : start ≡ suc item = cc in rw s (way_opened p)
 lies_way false true p q before e = absurd (outside_inside e)
 lies_way false false p q before e = way_on (before e) p q
 
-under_way : (levels : List ℕ) (item start : ℕ) → lies_at levels item ≡ Inside start → UnderWay levels start item
+under_way : (levels : List ℕ) (item start : ℕ) → lies_at levels item ≡ Some start → UnderWay levels start item
 unfolding lies_at
 under_way levels zero start e = absurd (outside_inside e)
 under_way levels (suc item) start e =
@@ -58,18 +57,18 @@ first_still : (levels : List ℕ) → start_at levels 0 ≡ false
 unfolding edge_at line_before
 first_still levels = refl
 
-lies_inside : (levels : List ℕ) (item start : ℕ) → UnderWay levels start item → lies_at levels item ≡ Inside start
+lies_inside : (levels : List ℕ) (item start : ℕ) → UnderWay levels start item → lies_at levels item ≡ Some start
 unfolding lies_at
 lies_inside levels zero start w =
     let s : start ≡ 0 = omega arith in
     absurd (not_both_lem w.opens (rw s (first_still levels)))
 lies_inside levels (suc item) start w = ⊎_elim here (further (lies_inside levels item start)) (eq-or-lt_of_le w.upto)
   where
-    here : start ≡ suc item → lies_at levels (suc item) ≡ Inside start
-    here e = let o : start_at levels (suc item) ≡ true = rw (← e) w.opens in rw o (ap Inside (sym e))
+    here : start ≡ suc item → lies_at levels (suc item) ≡ Some start
+    here e = let o : start_at levels (suc item) ≡ true = rw (← e) w.opens in rw o (ap Some (sym e))
 
-    further : (UnderWay levels start item → lies_at levels item ≡ Inside start) → start < suc item
-        → lies_at levels (suc item) ≡ Inside start
+    further : (UnderWay levels start item → lies_at levels item ≡ Some start) → start < suc item
+        → lies_at levels (suc item) ≡ Some start
     further before l =
         let n : start_at levels (suc item) ≡ false = w.one_start (suc item) l (omega arith) in
         let t : stop_at levels item ≡ false = w.no_stop item (omega arith) (omega arith) in
@@ -97,7 +96,7 @@ end_message levels (suc left) item start w e =
     (λ v. end_message levels left (suc item) start v (omega arith))
 
 -- The message that an item lies in is whole, and ends where `end_at` says.
-pub whole_message : (levels : List ℕ) (item start : ℕ) → item < length levels → lies_at levels item ≡ Inside start
+pub whole_message : (levels : List ℕ) (item start : ℕ) → item < length levels → lies_at levels item ≡ Some start
     → (last : ℕ) × (end_at levels item ≡ suc last) × (start ≤ item) × (item ≤ last) × IsMessage levels start last
 whole_message levels item start h e =
     let w = under_way levels item start e in
@@ -122,9 +121,9 @@ one_end {last = last} {other = other} m n =
 
 -- Every item of a message lies inside it, and finds its end.
 pub item_inside : {levels : List ℕ} {start last : ℕ} (item : ℕ) → IsMessage levels start last → start ≤ item → item ≤ last
-    → (lies_at levels item ≡ Inside start) × (end_at levels item ≡ suc last)
+    → (lies_at levels item ≡ Some start) × (end_at levels item ≡ suc last)
 item_inside {levels} {start} {last} item m h g =
-    let p : lies_at levels item ≡ Inside start = lies_inside levels item start (way_back item m.way h g) in
+    let p : lies_at levels item ≡ Some start = lies_inside levels item start (way_back item m.way h g) in
     let w : last < length levels = m.within in
     let (other, e, s, l, n) = whole_message levels item start (omega arith) p in
     (p, e ∙ ap suc (one_end n m))

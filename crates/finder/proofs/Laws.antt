@@ -1,21 +1,17 @@
 -- Laws that the finder's proofs cite: what is carried one item on, the end of a message one item on, the first bad item, and
 -- that a part lies inside its record.
-use Rattle.std.specs.Prelude.{ℕ, zero, suc, ◌+◌, ◌-◌, ◌<◌, ◌≤◌, ◌≡◌, refl, List, Bool, true, false, take, drop, ltb}
+use Rattle.std.specs.Prelude.{ℕ, zero, suc, ◌+◌, ◌-◌, ◌<◌, ◌≤◌, ◌≡◌, refl, List, Bool, true, false, None, Some}
 use Rattle.std.proofs.Common.{◌∙◌, add-one}
 use native.Mathlib.Omega.{arith}
 use Rattle.std.proofs.Math.ListN.{length}
-use borrow.Author.Tests.{lt-ltb, le-ltb, ltb-true}
+use borrow.Author.Tests.{lt-ltb, le-ltb}
 use Rattle.refusals.specs.declared.Refusal.TheVariants.{PastRecord}
-use Rattle.wire.specs.Wire.{is_start}
-use Rattle.finder.specs.declared.Whereabouts.{Whereabouts}
-use Rattle.finder.specs.declared.Whereabouts.TheVariants.{Outside, Inside}
+use Rattle.wire.specs.Wire.{is_start, is_stop}
 use Rattle.finder.specs.declared.Carried.{Carried}
-use Rattle.found.specs.declared.Found.{Found}
-use Rattle.found.specs.declared.Found.TheVariants.{Part, NotFound}
-use Rattle.finder.specs.Messages.{level_at, line_before, edge_at, is_stop, start_at, stop_before, past_end, lies_at, end_from, end_at}
+use Rattle.finder.specs.Messages.{level_at, line_before, edge_at, start_at, stop_before, past_end, lies_at, end_from, end_at}
 use Rattle.finder.specs.Carried.{unread, read_on, carried_before}
-use Rattle.found.specs.Numbers.{start_of, length_of}
-use Rattle.finder.specs.Find.{first_bad_level, part_from, message_part, span_if, span_of, part_of, part_place}
+use Rattle.found.specs.Numbers.{part, not_found}
+use Rattle.finder.specs.Find.{first_bad_level, message_part, span_of}
 use Rattle.finder.specs.Laws.{EndTest, PartOutside}
 use Rattle.finder.proofs.Extent.{whole_message}
 
@@ -51,9 +47,6 @@ module _ (levels : List ℕ) (item : ℕ) {carried next : Carried} (before : car
 
 -- Where the message ends, by what is left of the record.
 module _ (levels : List ℕ) (item : ℕ) where
-  pub end_first : end_at levels item ≡ end_from levels (item + 1) (length levels - (item + 1))
-  end_first = rw add-one
-
   pub end_none : length levels ≤ item → end_from levels item (length levels - item) ≡ item
   unfolding end_from
   end_none h = let z : length levels - item ≡ 0 = omega arith in rw z
@@ -78,11 +71,11 @@ unfolding carried_before
 carried_lies levels item e = rw (e, add-one)
 
 module _ (levels : List ℕ) (item : ℕ) {carried : Carried} (read : carried ≡ carried_before levels (item + 1)) where
-  pub part_outside : carried.lies ≡ Outside → PartOutside levels item
+  pub part_outside : carried.lies ≡ None → PartOutside levels item
   part_outside h = rw (carried_lies levels item read, h)
 
-  module _ {start end : ℕ} (h : carried.lies ≡ Inside start) (e : end ≡ end_at levels item) where
-    pub part_inside : Part start (end - start) ≡ message_part levels item
+  module _ {start end : ℕ} (h : carried.lies ≡ Some start) (e : end ≡ end_at levels item) where
+    pub part_inside : part start (end - start) ≡ message_part levels item
     part_inside = rw (carried_lies levels item read, h, e)
 
     pub part_order : item < length levels → start ≤ end
@@ -90,40 +83,18 @@ module _ (levels : List ℕ) (item : ℕ) {carried : Carried} (read : carried �
         let (last, p, s, q, m) = whole_message levels item start g (carried_lies levels item read ∙ h) in
         omega arith
 
+    pub part_ends : item < length levels → end ≤ length levels
+    part_ends g =
+        let (last, p, s, q, m) = whole_message levels item start g (carried_lies levels item read ∙ h) in
+        let v : last < length levels = m.within in
+        omega arith
+
 -- The three ways through a call.
 module _ (levels : List ℕ) (item : ℕ) {bad : ℕ} (first : bad ≡ first_bad_level levels) where
-  pub span_past : length levels ≤ bad → length levels ≤ item → NotFound PastRecord 0 ≡ span_of levels item
+  pub span_past : length levels ≤ bad → length levels ≤ item → not_found PastRecord 0 ≡ span_of levels item
   unfolding span_of
   span_past h g = rw (← first, le-ltb bad (length levels) h, le-ltb item (length levels) g)
 
   pub span_part : length levels ≤ bad → item < length levels → message_part levels item ≡ span_of levels item
   unfolding span_of
   span_part h g = rw (← first, le-ltb bad (length levels) h, lt-ltb item (length levels) g)
-
--- A part lies inside its record, whatever the call.
-lies_within : (levels : List ℕ) (item : ℕ) (lies : Whereabouts) → lies_at levels item ≡ lies → item < length levels
-    → start_of (part_from lies item (end_at levels item)) + length_of (part_from lies item (end_at levels item)) ≤ length levels
-lies_within levels item Outside e h = omega arith
-lies_within levels item (Inside start) e h =
-    let (last, p, s, q, m) = whole_message levels item start h e in
-    let v : last < length levels = m.within in
-    omega arith
-
-if_within : (levels : List ℕ) (item : ℕ) (bad inside : Bool) → ltb item (length levels) ≡ inside
-    → start_of (span_if bad inside levels item) + length_of (span_if bad inside levels item) ≤ length levels
-if_within levels item true inside e = omega arith
-if_within levels item false false e = omega arith
-if_within levels item false true e = lies_within levels item (lies_at levels item) refl (ltb-true item (length levels) e)
-
--- The part that the code takes is the one that was found.
-module _ (levels : List ℕ) (item : ℕ) {found : Found} {start count : ℕ} (e : found ≡ span_of levels item)
-    (s : start ≡ start_of found) (n : count ≡ length_of found) where
-  pub span_within : start + count ≤ length levels
-  unfolding span_of
-  span_within = rw (s, n, e) (if_within levels item (ltb (first_bad_level levels) (length levels)) (ltb item (length levels)) refl)
-
-  pub part_taken : take (start + count - start) (drop start levels) ≡ part_of levels (span_of levels item)
-  part_taken = let k : start + count - start ≡ count = omega arith in rw (k, s, n, e)
-
-  pub part_lies : (memory : ℕ × ℕ) → ◌≡◌ {A = ℕ × ℕ} (memory.0, start + memory.1) (part_place memory (span_of levels item))
-  part_lies memory = rw (s, e)

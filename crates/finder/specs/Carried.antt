@@ -1,15 +1,14 @@
 -- What the finder carries from item to item: the record's line, and the edge of the item just read and where it lies.
-use Rattle.std.specs.Prelude.{ℕ, zero, suc, List}
+use Rattle.std.specs.Prelude.{ℕ, zero, suc, List, None}
 use Rattle.wire.specs.declared.Edge.{Edge}
 use Rattle.wire.specs.declared.Edge.TheVariants.{Still}
-use Rattle.wire.specs.Wire.{scl_of, sda_of, edge_of, line_after, unseen, is_start}
-use Rattle.finder.specs.declared.Whereabouts.TheVariants.{Outside}
+use Rattle.wire.specs.Wire.{scl_of, sda_of, edge_of, line_after, unseen, is_start, is_stop}
 use Rattle.finder.specs.declared.Carried.{Carried}
-use Rattle.finder.specs.Messages.{line_before, edge_at, lies_at, is_stop, lies_by}
+use Rattle.finder.specs.Messages.{line_before, edge_at, lies_at, lies_by}
 
 -- Before item 0.
 abbrev pub unread : Carried
-unread = record { line = unseen; edge = Still; lies = Outside }
+unread = record { line = unseen; edge = Still; lies = None }
 
 -- One item more, at its number and with its level.
 abbrev pub read_on : Carried → ℕ → ℕ → Carried

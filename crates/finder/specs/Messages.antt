@@ -1,13 +1,10 @@
 -- The messages of a wire record (01, "The wire record and the message under the cursor"): which items are a Start or a
 -- Stop, where an item lies, and where its message ends. Items are numbered from 0; the edges are those of crate `wire`.
-use Rattle.std.specs.Prelude.{ℕ, zero, suc, ◌-◌, ◌<◌, ◌≤◌, ◌+◌, ◌≡◌, List, ◌⊎◌, Bool, true, false, cond, ◌||◌, length, get_or}
+use Rattle.std.specs.Prelude.{ℕ, zero, suc, ◌-◌, ◌<◌, ◌≤◌, ◌+◌, ◌≡◌, List, ◌⊎◌, Bool, true, false, cond, ◌||◌, length, get_or, Option, None, Some}
 use Rattle.items.specs.First.{FirstAbove, NoneAbove}
 use Rattle.wire.specs.declared.Line.{Line}
 use Rattle.wire.specs.declared.Edge.{Edge}
-use Rattle.wire.specs.declared.Edge.TheVariants.{Still, Start, Stop, Rise, Fall}
-use Rattle.wire.specs.Wire.{scl_of, sda_of, edge_of, line_next, unseen, is_start}
-use Rattle.finder.specs.declared.Whereabouts.{Whereabouts}
-use Rattle.finder.specs.declared.Whereabouts.TheVariants.{Outside, Inside}
+use Rattle.wire.specs.Wire.{scl_of, sda_of, edge_of, line_next, unseen, is_start, is_stop}
 
 -- An item's level. Past the record it is 0, both lines low, which makes neither Start nor Stop.
 abbrev pub level_at : List ℕ → ℕ → ℕ
@@ -23,13 +20,6 @@ line_before levels (suc item) = line_next (line_before levels item) (scl_of (lev
 unfoldable pub edge_at : List ℕ → ℕ → Edge
 edge_at levels item = edge_of (line_before levels item) (scl_of (level_at levels item)) (sda_of (level_at levels item))
 
-abbrev pub is_stop : Edge → Bool
-is_stop Still = false
-is_stop Start = false
-is_stop Stop = true
-is_stop (Rise sda) = false
-is_stop Fall = false
-
 -- The item whose level makes a Start is the first of its message; the one whose level makes the Stop is the last.
 abbrev pub start_at : List ℕ → ℕ → Bool
 start_at levels item = is_start (edge_at levels item)
@@ -43,14 +33,14 @@ stop_before levels (suc item) = stop_at levels item
 
 -- Where an item lies: a Start opens a message; after a Stop an item lies in none; any other lies where the one before it
 -- lies. The tests: the item is a Start, the item before is a Stop.
-abbrev pub lies_by : Bool → Bool → Whereabouts → ℕ → Whereabouts
-lies_by true stopped before item = Inside item
-lies_by false true before item = Outside
+abbrev pub lies_by : Bool → Bool → Option ℕ → ℕ → Option ℕ
+lies_by true stopped before item = Some item
+lies_by false true before item = None
 lies_by false false before item = before
 
 -- Nothing is seen before item 0, so it makes no edge and lies in no message.
-unfoldable pub lies_at : List ℕ → ℕ → Whereabouts
-lies_at levels zero = Outside
+unfoldable pub lies_at : List ℕ → ℕ → Option ℕ
+lies_at levels zero = None
 lies_at levels (suc item) = lies_by (start_at levels (suc item)) (stop_at levels item) (lies_at levels item) (suc item)
 
 -- An item is past the message under way: the item before is its Stop, or this one is the next Start.

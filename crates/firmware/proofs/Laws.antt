@@ -1,10 +1,9 @@
 -- The ways through a call: what the code knows on each, and what follows.
-use Rattle.std.specs.Prelude.{ℕ, ◌+◌, ◌-◌, ◌<◌, ◌≤◌, ◌≡◌, refl, Bool, true, false, not, ◌&&◌, List, T, eqb, leb, length}
+use Rattle.std.specs.Prelude.{ℕ, ◌+◌, ◌-◌, ◌<◌, ◌≤◌, ◌≡◌, refl, Bool, true, false, not, ◌&&◌, Ok, Err, List, T, eqb, leb, length}
 use Rattle.std.proofs.Common.{sym, ap, ap₂, ◌∙◌, arith, leb→le, leb-true, leb-false, le-leb}
 use Rattle.std.proofs.lemmas.Bool.{not-true, not-false, lt-leb}
 use Rattle.truth.specs.Tests.{by_test, and_first, and_left, and_right}
 use Rattle.refusals.specs.declared.Refusal.TheVariants.{NoWindow}
-use Rattle.refusals.specs.declared.Verdict.TheVariants.{Done, Refused}
 use Rattle.firmware.specs.declared.State.{State}
 use Rattle.firmware.specs.Handler.{longest_window, is_window_length, Served, served, acknowledged, addressed, sent, taken, serve, called_if, called}
 use Rattle.firmware.specs.Window.{window_fits, window_of, splice, in_buffer, called_in, window_outcome, work_done, call_choice, call_of}
@@ -84,10 +83,10 @@ module _ (s : State) (buffer : List ℕ) (start n : ℕ) where
   pub call_done :
       {f : Bool} → f ≡ window_fits (length buffer) start n s.handler.n → f ≡ true
       → {r : State} {left : List ℕ} → served r left ≡ called_in s buffer start n
-      → window_outcome (Done 0) 0 r left ≡ call_of s buffer start n
+      → window_outcome (Ok 0) 0 r left ≡ call_of s buffer start n
   call_done e t h = ap work_done h ∙ sym (ap (call_choice s buffer start n) (sym e ∙ t))
 
   pub call_refused :
       {f : Bool} → f ≡ window_fits (length buffer) start n s.handler.n → f ≡ false
-      → window_outcome (Refused NoWindow) 0 s buffer ≡ call_of s buffer start n
+      → window_outcome (Err NoWindow) 0 s buffer ≡ call_of s buffer start n
   call_refused e t = sym (ap (call_choice s buffer start n) (sym e ∙ t))

@@ -1,5 +1,6 @@
 -- The handler (01, "Handler and plain device"): its set-up and what a call does.
-use Rattle.std.specs.Prelude.{ℕ, Bool, true, false, cond, ◌&&◌, List, leb}
+use Rattle.std.specs.Prelude.{ℕ, Bool, true, false, cond, ◌&&◌, Result, Ok, Err, List, leb}
+use Rattle.refusals.specs.declared.Refusal.{Refusal}
 use Rattle.refusals.specs.declared.Refusal.TheVariants.{NoWindow}
 use Rattle.mssp.specs.declared.Module.{Module}
 use Rattle.mssp.specs.Module.{module_of, setup, set_sspif}
@@ -7,8 +8,6 @@ use Rattle.effects.specs.Effects.{emptied, loaded, released}
 use Rattle.memory.specs.Memory.{Memory, memory_of, peeked, laid_out, put}
 use Rattle.firmware.specs.declared.Handler.{Handler}
 use Rattle.firmware.specs.declared.State.{State}
-use Rattle.firmware.specs.declared.Made.{Made}
-use Rattle.firmware.specs.declared.Made.TheVariants.{Ready, NotMade}
 
 abbrev pub handler_of : ℕ → ℕ → Bool → Handler
 handler_of n pointer due = record { n = n; pointer = pointer; due = due }
@@ -25,8 +24,8 @@ abbrev pub is_window_length : ℕ → Bool
 is_window_length n = leb 1 n && leb n longest_window
 
 -- Set up with a length that a window can have: the module chosen, the pointer 0, none due. Any other length is refused.
-abbrev pub setup_of : ℕ → ℕ → Made
-setup_of add n = cond (is_window_length n) (Ready (state_of (setup add) (handler_of n 0 false))) (NotMade NoWindow)
+abbrev pub setup_of : ℕ → ℕ → Result State Refusal
+setup_of add n = cond (is_window_length n) (Ok (state_of (setup add) (handler_of n 0 false))) (Err NoWindow)
 
 -- What a call leaves: the state, and the bytes of the window.
 pub record Served : Type 0 where

@@ -1,9 +1,8 @@
 -- The window that the handler works on (01, "Handler and plain device" and refusal 5): it may start anywhere in the
 -- caller's buffer, and the bytes outside it never change.
-use Rattle.std.specs.Prelude.{ℕ, ◌+◌, Bool, true, false, ◌&&◌, List, ◌++◌, eqb, leb, length, take, drop}
+use Rattle.std.specs.Prelude.{ℕ, ◌+◌, Bool, true, false, ◌&&◌, Ok, Err, List, ◌++◌, eqb, leb, length, take, drop}
 use Rattle.refusals.specs.declared.Refusal.TheVariants.{NoWindow}
-use Rattle.refusals.specs.declared.Verdict.{Verdict}
-use Rattle.refusals.specs.declared.Verdict.TheVariants.{Done, Refused}
+use Rattle.refusals.specs.Numbers.{Verdict}
 use Rattle.firmware.specs.declared.State.{State}
 use Rattle.firmware.specs.Handler.{Served, served, called}
 
@@ -38,12 +37,12 @@ abbrev pub window_outcome : Verdict → ℕ → State → List ℕ → WindowOut
 window_outcome verdict item s buffer = record { verdict = verdict; item = item; state = s; buffer = buffer }
 
 abbrev pub work_done : Served → WindowOutcome
-work_done w = window_outcome (Done 0) 0 w.state w.bytes
+work_done w = window_outcome (Ok 0) 0 w.state w.bytes
 
 -- A window that does not fit is refused; state and buffer stay.
 abbrev pub call_choice : State → List ℕ → ℕ → ℕ → Bool → WindowOutcome
 call_choice s buffer start n true = work_done (called_in s buffer start n)
-call_choice s buffer start n false = window_outcome (Refused NoWindow) 0 s buffer
+call_choice s buffer start n false = window_outcome (Err NoWindow) 0 s buffer
 
 abbrev pub call_of : State → List ℕ → ℕ → ℕ → WindowOutcome
 call_of s buffer start n = call_choice s buffer start n (window_fits (length buffer) start n s.handler.n)

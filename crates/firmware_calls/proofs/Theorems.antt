@@ -1,15 +1,11 @@
 -- What the handler's calls promise beside their contracts (01, "Calls, refusals and their order"): a refused one leaves the
 -- state's bytes and the buffer's.
-use Rattle.std.specs.Prelude.{ℕ, ◌<◌, ◌≡◌, refl, Bool, true, false, cond, List, ◌++◌, eqb, ltb, length, take, drop}
+use Rattle.std.specs.Prelude.{ℕ, ◌<◌, ◌≡◌, refl, Bool, true, false, cond, Result, Ok, Err, List, ◌++◌, eqb, ltb, length, take, drop, Option, Some, None}
 use Rattle.std.proofs.Common.{sym, arith}
-use Rattle.std.proofs.Math.Option.{Option, none, some}
 use Rattle.truth.specs.Tests.{never}
-use Rattle.refusals.specs.declared.Verdict.{Verdict}
-use Rattle.refusals.specs.declared.Verdict.TheVariants.{Done, Refused}
-use Rattle.refusals.specs.Numbers.{accepted}
+use Rattle.refusals.specs.declared.Refusal.{Refusal}
+use Rattle.refusals.specs.Numbers.{Verdict, accepted}
 use Rattle.firmware.specs.declared.State.{State}
-use Rattle.firmware.specs.declared.Made.{Made}
-use Rattle.firmware.specs.declared.Made.TheVariants.{Ready, NotMade}
 use Rattle.firmware.specs.Handler.{Served, setup_of}
 use Rattle.firmware.specs.Window.{window_fits, WindowOutcome, call_of, call_choice}
 use Rattle.items.specs.First.{first_above}
@@ -20,10 +16,10 @@ use Rattle.settling.specs.Outcome.{lent, settled, no_state, by_state, Keeps, Kee
 use Rattle.settling.proofs.Theorems.{settled_keeps_lent, state_keeps_lent}
 use Rattle.firmware_calls.specs.Calls.{setup_if, door_setup, settled_work, by_work, door_call, door_run, DrawnLent, door_lanes}
 
-setup_if_lem : (fits : Bool) (made : Made) (bytes : List ℕ) → Keeps bytes (setup_if fits made bytes)
+setup_if_lem : (fits : Bool) (made : Result State Refusal) (bytes : List ℕ) → Keeps bytes (setup_if fits made bytes)
 setup_if_lem false made bytes h = refl
-setup_if_lem true (NotMade why) bytes h = refl
-setup_if_lem true (Ready s) bytes h = absurd (omega arith)
+setup_if_lem true (Err why) bytes h = refl
+setup_if_lem true (Ok s) bytes h = absurd (omega arith)
 
 -- A refused call leaves the buffer.
 call_if :
@@ -74,8 +70,8 @@ module _ (bytes buffer : List ℕ) where
 
 -- Refused, a drawing leaves the lanes.
 lanes_if : (v : Verdict) (item : ℕ) (image bytes words lanes : List ℕ) → 0 < (settled v item image bytes).answer.refusal → cond (accepted v) words lanes ≡ lanes
-lanes_if (Done value) item image bytes words lanes h = absurd (omega arith)
-lanes_if (Refused why) item image bytes words lanes h = refl
+lanes_if (Ok value) item image bytes words lanes h = absurd (omega arith)
+lanes_if (Err why) item image bytes words lanes h = refl
 
 pub lanes_keep :
     (bytes buffer : List ℕ) (start n : ℕ) (items lanes : List ℕ) → let d : DrawnLent = door_lanes bytes buffer start n items lanes in
@@ -87,8 +83,8 @@ lanes_keep bytes buffer start n items lanes = by (decode_of bytes)
         (found : Option State)
         → 0 < (by_state found (lent (no_state bytes) buffer) (λ s. settled_work bytes (draw_in_of s buffer start n items lanes).outcome)).outcome.answer.refusal
         → by_state found lanes (λ s. (draw_in_of s buffer start n items lanes).lanes) ≡ lanes
-    by none h = refl
-    by (some s) h =
+    by None h = refl
+    by (Some s) h =
         let o : WindowOutcome = (draw_in_of s buffer start n items lanes).outcome in
         let words : List ℕ = (laned_in s buffer start n (take (shorter_of (length items) (length lanes)) items)).lanes in
         lanes_if o.verdict o.item (encode_of o.state) bytes (words ++ drop (length words) lanes) lanes h

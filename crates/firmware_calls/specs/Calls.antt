@@ -1,8 +1,7 @@
 -- What set-up, a handler call, a run and a drawing answer and leave, for every input (01, "Calls, refusals and their order").
-use Rattle.std.specs.Prelude.{ℕ, Bool, true, false, List, eqb, length}
+use Rattle.std.specs.Prelude.{ℕ, Bool, true, false, Result, Ok, Err, List, eqb, length}
 use Rattle.firmware.specs.declared.State.{State}
-use Rattle.firmware.specs.declared.Made.{Made}
-use Rattle.firmware.specs.declared.Made.TheVariants.{Ready, NotMade}
+use Rattle.refusals.specs.declared.Refusal.{Refusal}
 use Rattle.firmware.specs.Handler.{setup_of}
 use Rattle.firmware.specs.Window.{WindowOutcome, call_of}
 use Rattle.trace.specs.Window.{run_in_of}
@@ -12,10 +11,10 @@ use Rattle.settling.specs.Outcome.{Outcome, outcome, Lent, lent, done, refused, 
 
 -- ---- set-up
 -- By whether 48 bytes are lent, then by n.
-abbrev pub setup_if : Bool → Made → List ℕ → Outcome
+abbrev pub setup_if : Bool → Result State Refusal → List ℕ → Outcome
 setup_if false made bytes = no_state bytes
-setup_if true (NotMade why) bytes = outcome (refused why 0) bytes
-setup_if true (Ready s) bytes = outcome (done 0) (encode_of s)
+setup_if true (Err why) bytes = outcome (refused why 0) bytes
+setup_if true (Ok s) bytes = outcome (done 0) (encode_of s)
 
 abbrev pub door_setup : List ℕ → ℕ → ℕ → Outcome
 door_setup bytes add n = setup_if (eqb (length bytes) image_length) (setup_of add n) bytes

@@ -1,13 +1,10 @@
 -- What the code of the handler's calls knows on each way, and what follows.
-use Rattle.std.specs.Prelude.{ℕ, ◌≡◌, List, length}
+use Rattle.std.specs.Prelude.{ℕ, ◌≡◌, Result, Ok, Err, List, length}
 use Rattle.std.proofs.Common.{sym, ap, ◌∙◌, eq-eqb, ne_eqb}
 use Rattle.refusals.specs.declared.Refusal.{Refusal}
 use Rattle.refusals.specs.declared.Refusal.TheVariants.{NoState}
-use Rattle.refusals.specs.declared.Verdict.{Verdict}
-use Rattle.refusals.specs.declared.Verdict.TheVariants.{Done}
+use Rattle.refusals.specs.Numbers.{Verdict}
 use Rattle.firmware.specs.declared.State.{State}
-use Rattle.firmware.specs.declared.Made.{Made}
-use Rattle.firmware.specs.declared.Made.TheVariants.{Ready, NotMade}
 use Rattle.firmware.specs.Handler.{setup_of}
 use Rattle.firmware.specs.Window.{WindowOutcome, window_outcome}
 use Rattle.image.specs.Image.{image_length, encode_of}
@@ -23,17 +20,17 @@ module _ (bytes : List ℕ) (add n : ℕ) where
       {r : Answer} → (length bytes ≡ image_length → ⊥) → r ≡ refused NoState 0 → outcome r bytes ≡ door_setup bytes add n
   setup-length other e = rw (ne_eqb (length bytes) image_length other, e)
 
-  module _ (long : length bytes ≡ image_length) {made : Made} (is : made ≡ setup_of add n) where
+  module _ (long : length bytes ≡ image_length) {made : Result State Refusal} (is : made ≡ setup_of add n) where
     pub setup-refused :
-        {why : Refusal} {r : Answer} → made ≡ NotMade why → r ≡ refused why 0 → outcome r bytes ≡ door_setup bytes add n
+        {why : Refusal} {r : Answer} → made ≡ Err why → r ≡ refused why 0 → outcome r bytes ≡ door_setup bytes add n
     setup-refused e f = rw (eq-eqb (length bytes) image_length long, ← is, e, f)
 
     pub setup_ready :
-        {s : State} {image : List ℕ} {o : Outcome} → made ≡ Ready s → image ≡ encode_of s
-        → o ≡ settled (Done 0) 0 (image_over image bytes) bytes → o ≡ door_setup bytes add n
+        {s : State} {image : List ℕ} {o : Outcome} → made ≡ Ok s → image ≡ encode_of s
+        → o ≡ settled (Ok 0) 0 (image_over image bytes) bytes → o ≡ door_setup bytes add n
     setup_ready {s} e f g =
         rw (eq-eqb (length bytes) image_length long, ← is, e)
-        (settled-whole (Done 0) 0 (encode_of s) bytes (long ∙ sym (encode_length s)) f g)
+        (settled-whole (Ok 0) 0 (encode_of s) bytes (long ∙ sym (encode_length s)) f g)
 
 -- ---- what is settled on a state
 pub work_settled :

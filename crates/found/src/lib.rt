@@ -1,54 +1,45 @@
-// What a search for a message answers, and the numbers that stand for it at the door.
+//! What a search for a message answers, and the numbers that stand for it at the door.
 #![tactic(auto)]
 
 ghost use Rattle.std.specs.Prelude.{◌≡◌};
 ghost use Rattle.found.specs.Numbers.{refusal_of, bad_item_of, start_of, length_of};
 
-use refusals::Refusal;
+use refusals::Refused;
 
-// The answer: a part's start and length, or why there is none and the item beside the refusal.
-#[derive(Clone, Copy)]
-pub enum Found {
-    Part(u64, u64),
-    NotFound(Refusal, u64),
+/// A part of a record: its first item's number, and how many items it has.
+#[derive(Clone, Copy, Default)]
+pub struct Part {
+    pub start: usize,
+    pub length: usize,
 }
 
-// The refusal's number, 0 where there is none.
+/// The answer: a part, or why there is none.
+pub type Found = Result<Part, Refused>;
+
+/// The refusal's number, 0 where there is none.
 pub fn refusal_number(found: Found) -> u8
     ensures { result ≡ refusal_of found }
 {
-    match found {
-        Found::Part(_, _) => 0,
-        Found::NotFound(why, _) => refusals::number(why),
-    }
+    found.err().map_or(0, |refused| refused.why.number())
 }
 
-// The item's number beside a refusal, else 0.
+/// The item's number beside a refusal, else 0.
 pub fn bad_item(found: Found) -> u64
     ensures { result ≡ bad_item_of found }
 {
-    match found {
-        Found::Part(_, _) => 0,
-        Found::NotFound(_, item) => item,
-    }
+    found.err().map_or(0, |refused| refused.item)
 }
 
-// Where the part starts, 0 after a refusal.
+/// Where the part starts, 0 after a refusal.
 pub fn start_of(found: Found) -> u64
     ensures { result ≡ start_of found }
 {
-    match found {
-        Found::Part(start, _) => start,
-        Found::NotFound(_, _) => 0,
-    }
+    found.map_or(0, |part| part.start as u64)
 }
 
-// How many items the part has, 0 after a refusal.
+/// How many items the part has, 0 after a refusal.
 pub fn length_of(found: Found) -> u64
     ensures { result ≡ length_of found }
 {
-    match found {
-        Found::Part(_, count) => count,
-        Found::NotFound(_, _) => 0,
-    }
+    found.map_or(0, |part| part.length as u64)
 }

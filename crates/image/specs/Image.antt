@@ -1,14 +1,11 @@
 -- The image of a state (01, "Calls, refusals and their order"): exactly 48 bytes, each state one image. The layout is ours.
-use Rattle.std.specs.Prelude.{ℕ, ◌-◌, Bool, ◌&&◌, List, ◌++◌, length, drop, replicate}
-use Rattle.std.proofs.Math.Option.{Option, none, some}
+use Rattle.std.specs.Prelude.{ℕ, ◌-◌, Bool, true, ◌&&◌, List, ◌++◌, Option, eqb, length, drop, replicate, fold, zip}
 use Rattle.codec.specs.Codec.{is_image, decoded_by}
 use Rattle.mssp.specs.Valid.{valid}
 use Rattle.firmware.specs.declared.State.{State}
 use Rattle.firmware.specs.Handler.{state_of}
 use Rattle.module_image.specs.ModulePart.{module_length, module_part, module_from}
 use Rattle.image.specs.HandlerPart.{handler_part, handler_from, handler_valid}
-use Rattle.image.specs.declared.Decoded.{Decoded}
-use Rattle.image.specs.declared.Decoded.TheVariants.{Image, NoImage}
 
 abbrev pub image_length : ℕ
 image_length = 48
@@ -29,6 +26,10 @@ encode_of s = padded image_length (module_part s.mssp ++ handler_part s.handler)
 unfoldable pub parse_of : List ℕ → State
 parse_of b = state_of (module_from b) (handler_from (drop module_length b))
 
+-- Bytes are the same, place by place, as far as both rows go.
+abbrev pub all_alike : List ℕ → List ℕ → Bool
+all_alike xs ys = fold (λ alike p. alike && eqb p.0 p.1) true (zip xs ys)
+
 -- Bytes are a state's image: just that of the state that they name, and there is such a state.
 unfoldable pub is_state : List ℕ → Bool
 is_state b = is_image encode_of parse_of valid_state b
@@ -36,8 +37,3 @@ is_state b = is_image encode_of parse_of valid_state b
 -- Bytes decode to the state that they name if they are just its image, and there is such a state.
 unfoldable pub decode_of : List ℕ → Option State
 decode_of b = decoded_by encode_of parse_of valid_state b
-
--- The state whose image the code has found bytes to be.
-abbrev pub state_in : Decoded → Option State
-state_in (Image s) = some s
-state_in NoImage = none

@@ -1,10 +1,9 @@
 -- Laws of the image that the code's proofs and the theorems cite.
-use Rattle.std.specs.Prelude.{ℕ, ◌+◌, ◌-◌, ◌<◌, ◌≤◌, ◌≡◌, refl, Bool, true, false, cond, ◌&&◌, eqb, length, take, drop, get_or}
+use Rattle.std.specs.Prelude.{ℕ, ◌+◌, ◌-◌, ◌<◌, ◌≤◌, ◌≡◌, refl, Bool, true, false, cond, ◌&&◌, eqb, Some, None, length, take, drop, get_or, fold, zip}
 use Rattle.std.proofs.Math.Path.{sym, ap, ap₂}
 use Rattle.std.proofs.Common.{◌∙◌, length-drop, drop_of_length-le, take_all, drop-cons, drop-drop, arith, add-one}
 use Rattle.std.proofs.Math.Bool.{and_assoc, and_comm, and-true, and-false}
-use mathlib.Core.List.{List, ◌++◌}
-use Rattle.std.proofs.Math.Option.{none, some}
+use mathlib.Core.List.{List, [], ◌∷◌, ◌++◌}
 use Rattle.std.proofs.Math.ListN.{replicate}
 use Rattle.codec.specs.Codec.{same_bytes}
 use Rattle.codec.proofs.Laws.{same_at_lem, same_joined}
@@ -20,7 +19,7 @@ use Rattle.mssp.specs.Valid.{valid}
 use Rattle.module_image.specs.ModulePart.{module_length, module_part, module_from, is_module, with_module, with_stand}
 use Rattle.module_image.proofs.Laws.{module_back}
 use Rattle.image.specs.HandlerPart.{low, high, word, handler_length, handler_part, handler_from, handler_valid, is_handler}
-use Rattle.image.specs.Image.{image_length, encode_of, parse_of, is_state, decode_of}
+use Rattle.image.specs.Image.{image_length, encode_of, parse_of, is_state, decode_of, all_alike}
 
 -- ---- a state comes back from its image
 word_back : (n : ℕ) → word (low n) (high n) ≡ n
@@ -74,6 +73,19 @@ parsed b e f = simp (e, f, to_end module_length b)
 pub named : (b : List ℕ) → module_from b ≡ (parse_of b).mssp
 unfolding parse_of
 named b = refl
+
+-- Comparing byte by byte, from the first on: what was found so far, and what the rest comes to.
+folded_from :
+    (found : Bool) (xs ys : List ℕ) → length xs ≡ length ys
+    → fold (λ alike p. alike && eqb p.0 p.1) found (zip xs ys) ≡ found && same_bytes xs ys
+folded_from found [] [] l = sym (and-true found)
+folded_from found [] (y ∷ ys) l = absurd (omega arith)
+folded_from found (x ∷ xs) [] l = absurd (omega arith)
+folded_from found (x ∷ xs) (y ∷ ys) l =
+    folded_from (found && eqb x y) xs ys (omega arith) ∙ and_assoc found (eqb x y) (same_bytes xs ys)
+
+pub alike_same : (xs ys : List ℕ) → length xs ≡ length ys → all_alike xs ys ≡ same_bytes xs ys
+alike_same = folded_from true
 
 -- Comparing byte by byte: what was found so far, and what the rest comes to.
 module _ (xs ys : List ℕ) (i : ℕ) (found : Bool) (l : length xs ≡ length ys) where
@@ -137,8 +149,16 @@ module _ (b : List ℕ) where
       ∙ sym (regrouped modules handlers zeros (valid m) (handler_valid h))
       ∙ sym (ap (λ (t : Bool). t && (valid m && handler_valid h)) split)
 
+  -- The zeros are compared with what follows the two parts of an image.
+  pub zeros_alike :
+      length b ≡ image_length → let after : List ℕ = take (length b - 21) (drop 21 b) in
+      all_alike (replicate 27 0) after ≡ same_bytes (replicate 27 0) after
+  zeros_alike l =
+      let rest : length {A = ℕ} (replicate 27 0) ≡ length (take (length b - 21) (drop 21 b)) = rw (to_end 21 b) (simp length-drop (omega arith)) in
+      alike_same (replicate 27 0) (take (length b - 21) (drop 21 b)) rest
+
 -- Bytes decode by whether they are an image.
 pub decoded :
-    (b : List ℕ) {s : State} {found t : Bool} → found ≡ is_state b → s ≡ parse_of b → found ≡ t → cond t (some s) none ≡ decode_of b
+    (b : List ℕ) {s : State} {found t : Bool} → found ≡ is_state b → s ≡ parse_of b → found ≡ t → cond t (Some s) None ≡ decode_of b
 unfolding is_state decode_of
 decoded b e f g = rw (← g, e, f)

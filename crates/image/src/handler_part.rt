@@ -1,48 +1,34 @@
-// The handler's part of an image: n and the pointer, low byte first, and whether a pointer is due.
+//! The handler's part of an image: n and the pointer, low byte first, and whether a pointer is due.
 ghost use Rattle.std.specs.Prelude.{◌≡◌, ◌≤◌, length};
-ghost use Rattle.image.specs.HandlerPart.{low as low_of, high as high_of, word as word_of, handler_length, handler_part, handler_from, handler_valid, is_handler};
+ghost use Rattle.image.specs.HandlerPart.{handler_length, handler_part, handler_from, handler_valid, is_handler};
 
 use firmware::Handler;
-use memory::peek;
 
-fn low(n: u16) -> u8
-    ensures { result ≡ low_of n }
-{
-    (n % 256) as u8
-}
+pub const HANDLER_LENGTH: usize = 5;
 
-fn high(n: u16) -> u8
-    ensures { result ≡ high_of n }
-{
-    (n / 256) as u8
-}
+// Stays: functions on a handler, no methods. The type is of another crate, and an `impl` for it is refused here.
 
-fn word(lower: u8, upper: u8) -> u16
-    ensures { result ≡ word_of lower upper }
-{
-    (lower as u16) + 256 * (upper as u16)
-}
-
-pub fn handler_part(h: Handler) -> [u8; 5]
+/// n, the pointer, and whether one is due.
+pub fn handler_part(h: Handler) -> [u8; HANDLER_LENGTH]
     ensures { result ≡ handler_part h }
 {
-    [
-        low(h.n),
-        high(h.n),
-        low(h.pointer),
-        high(h.pointer),
-        h.due as u8,
-    ]
+    let [n_low, n_high] = h.n.to_le_bytes();
+    let [pointer_low, pointer_high] = h.pointer.to_le_bytes();
+    [n_low, n_high, pointer_low, pointer_high, u8::from(h.due)]
 }
 
-// The handler that bytes name; bytes past their end are 0.
+/// The handler that bytes name, whether they begin with its part or not.
 pub fn handler_from(b: &[u8]) -> Handler
+    requires { handler_length ≤ length b.now }
     ensures { result ≡ handler_from b.now }
 {
+    let &[n_low, n_high, pointer_low, pointer_high, due] = b
+        .first_chunk::<HANDLER_LENGTH>()
+        .unwrap();
     Handler {
-        n: word(peek(b, 0), peek(b, 1)),
-        pointer: word(peek(b, 2), peek(b, 3)),
-        due: peek(b, 4) == 1,
+        n: u16::from_le_bytes([n_low, n_high]),
+        pointer: u16::from_le_bytes([pointer_low, pointer_high]),
+        due: due == 1,
     }
 }
 
@@ -50,20 +36,15 @@ pub fn handler_from(b: &[u8]) -> Handler
 fn is_valid(h: Handler) -> bool
     ensures { result ≡ handler_valid h }
 {
-    firmware::is_window_length(h.n as u64) & (h.pointer < h.n)
+    firmware::is_window_length(u64::from(h.n)) & (h.pointer < h.n)
 }
 
-// Whether bytes begin with the part of a valid handler.
+/// Whether bytes begin with the part of a valid handler.
+#[tactic(auto, using(crate::specs::Laws::alike_same))]
 pub fn is_handler(b: &[u8]) -> bool
     requires { handler_length ≤ length b.now }
     ensures { result ≡ is_handler b.now }
 {
     let h = handler_from(b);
-    let part = handler_part(h);
-    let same = (part[0] == b[0])
-        & (part[1] == b[1])
-        & (part[2] == b[2])
-        & (part[3] == b[3])
-        & (part[4] == b[4]);
-    same & is_valid(h)
+    crate::same(&handler_part(h), &b[..HANDLER_LENGTH]) & is_valid(h)
 }

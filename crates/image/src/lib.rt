@@ -1,37 +1,31 @@
-// A state as its image of 48 bytes, and back: what C holds of a state is its image, and each state has one.
+//! A state as its image of 48 bytes, and back: what C holds of a state is its image, and each state has one.
 #![tactic(auto)]
 
 mod handler_part;
 
 ghost use Rattle.std.specs.Prelude.{◌≡◌, length};
-ghost use Rattle.image.specs.Image.{image_length, encode_of, parse_of, is_state, state_in, decode_of};
-ghost use Rattle.codec.specs.Codec.{same_bytes};
+ghost use Rattle.image.specs.Image.{image_length, encode_of, parse_of, is_state, decode_of, all_alike};
 
 use firmware::State;
+use handler_part::HANDLER_LENGTH;
 use module_image::MODULE_LENGTH;
 
 pub const IMAGE_LENGTH: usize = 48;
 
 // How many bytes the two parts take, and how many zeros follow.
-const USED: usize = 21;
+const USED: usize = MODULE_LENGTH + HANDLER_LENGTH;
 
-const ZEROS: usize = 27;
+const ZEROS: usize = IMAGE_LENGTH - USED;
 
-// What bytes are an image of.
-#[derive(Clone, Copy)]
-pub enum Decoded {
-    Image(State),
-    NoImage,
-}
+// Stays: functions on a state, no methods. The type is of another crate, and an `impl` for it is refused here.
 
-// The module's part, the handler's, and zeros.
+/// The module's part, the handler's, and zeros.
 pub fn encode(s: State) -> [u8; IMAGE_LENGTH]
     ensures { result ≡ encode_of s }
 {
-    let handler = handler_part::handler_part(s.handler);
     let mut image = [0u8; IMAGE_LENGTH];
     module_image::save(s.mssp, &mut image);
-    image[MODULE_LENGTH..USED].copy_from_slice(&handler);
+    image[MODULE_LENGTH..USED].copy_from_slice(&handler_part::handler_part(s.handler));
     image
 }
 
@@ -47,39 +41,35 @@ fn parse(bytes: &[u8]) -> State
 }
 
 // Whether rows of one length are the same. No byte is passed over, so that a processor may take many together.
+// Stays: an end at the first byte that differs costs a sample a fifth of its instructions (docs/DECISIONS.md).
 fn same(a: &[u8], b: &[u8]) -> bool
     requires { length a.now ≡ length b.now }
-    ensures { result ≡ same_bytes a.now b.now }
+    ensures { result ≡ all_alike a.now b.now }
 {
-    let mut alike = true;
-    let mut i = 0;
-    while i < a.len() {
-        alike = alike & (a[i] == b[i]);
-        i += 1;
-    }
-    alike
+    a.iter()
+        .zip(b)
+        .fold(true, |alike, (x, y)| alike & (*x == *y))
 }
 
-// Whether the bytes are a state's image, of whatever length they are: judged part by part, and no state is built.
+/// Whether the bytes are a state's image, of whatever length they are: judged part by part, and no state is built.
 pub fn is_image(bytes: &[u8]) -> bool
     ensures { result ≡ is_state bytes.now }
 {
     if bytes.len() != IMAGE_LENGTH {
         return false;
     }
-    let zeros = [0u8; ZEROS];
     module_image::is_module(bytes)
         & handler_part::is_handler(&bytes[MODULE_LENGTH..])
-        & same(&zeros, &bytes[USED..])
+        & same(&[0; ZEROS], &bytes[USED..])
 }
 
-// The state whose image the bytes are.
-pub fn decode(bytes: &[u8]) -> Decoded
-    ensures { state_in result ≡ decode_of bytes.now }
+/// The state whose image the bytes are.
+pub fn decode(bytes: &[u8]) -> Option<State>
+    ensures { result ≡ decode_of bytes.now }
 {
     if is_image(bytes) {
-        Decoded::Image(parse(bytes))
+        Some(parse(bytes))
     } else {
-        Decoded::NoImage
+        None
     }
 }

@@ -1,86 +1,54 @@
-// The report's input: what each byte of it is, and how many items it has.
+//! The report's input: what each byte of it is, and how many items it has.
 #![tactic(auto)]
 
 ghost use Rattle.std.specs.Prelude.{◌≡◌};
-ghost use Rattle.input.specs.Input.{asks_general, meaning_of, is_foreign, item_count, checked_of};
+ghost use Rattle.input.specs.Input.{asks_general, meaning_of, checked_of};
 
 use steps::Item;
+use wire::Level;
 
-// What a byte of the input is: passed over, an item, or neither.
-#[derive(Clone, Copy)]
-pub enum Meaning {
-    Skipped,
-    AnItem(Item),
-    Foreign,
+/// A byte that is neither an item nor passed over.
+#[derive(Clone, Copy, Debug)]
+pub struct Foreign;
+
+/// So many items come before the first foreign byte.
+#[derive(Clone, Copy, Debug)]
+pub struct Cut {
+    pub items: usize,
 }
 
-// How many items the input has: all of it, or up to its first foreign byte.
-#[derive(Clone, Copy)]
-pub enum Checked {
-    Whole(usize),
-    Cut(usize),
-}
-
-pub fn meaning_of(byte: u8) -> Meaning
+/// What a byte of the input is: an item, none where it is passed over, or foreign.
+pub fn meaning_of(byte: u8) -> Result<Option<Item>, Foreign>
     ensures { result ≡ meaning_of byte }
 {
-    if (byte == b' ') | (byte == b'\n') {
-        return Meaning::Skipped;
-    }
-    if byte == b'h' {
-        return Meaning::AnItem(Item::Call);
-    }
-    if (byte < b'0') | (b'3' < byte) {
-        return Meaning::Foreign;
-    }
-    let level = byte - b'0';
-    Meaning::AnItem(Item::Sample(level / 2 % 2 == 1, level / 1 % 2 == 1))
-}
-
-fn is_foreign(meaning: Meaning) -> bool
-    ensures { result ≡ is_foreign meaning }
-{
-    match meaning {
-        Meaning::Skipped => false,
-        Meaning::AnItem(_) => false,
-        Meaning::Foreign => true,
+    match byte {
+        b' ' | b'\n' => Ok(None),
+        b'h' => Ok(Some(Item::Call)),
+        b'0'..=b'3' => {
+            let level = Level::from(byte - b'0');
+            Ok(Some(Item::Sample(level.scl, level.sda)))
+        }
+        _ => Err(Foreign),
     }
 }
 
-// 1 for an item, else 0.
-fn item_count(meaning: Meaning) -> usize
-    ensures { result ≡ item_count meaning }
-{
-    match meaning {
-        Meaning::Skipped => 0,
-        Meaning::AnItem(_) => 1,
-        Meaning::Foreign => 0,
-    }
-}
-
-// A `g` stands before all else.
+/// A `g` stands before all else.
 pub fn asks_general(input: &[u8]) -> bool
     ensures { result ≡ asks_general input.now }
 {
-    if input.len() == 0 {
-        return false;
-    }
-    input[0] == b'g'
+    input.first() == Some(&b'g')
 }
 
-// The items are counted, up to the first foreign byte.
-pub fn check(input: &[u8]) -> Checked
+/// How many items the input has: all of it, or up to its first foreign byte.
+pub fn check(input: &[u8]) -> Result<usize, Cut>
     ensures { result ≡ checked_of input.now }
 {
     let mut items = 0;
-    let mut i = 0;
-    while i < input.len() {
-        let here = meaning_of(input[i]);
-        if is_foreign(here) {
-            return Checked::Cut(items);
-        }
-        items += item_count(here);
-        i += 1;
+    for &byte in input {
+        let Ok(meaning) = meaning_of(byte) else {
+            return Err(Cut { items });
+        };
+        items += usize::from(meaning.is_some());
     }
-    Checked::Whole(items)
+    Ok(items)
 }

@@ -1,17 +1,16 @@
 -- What one edge keeps of each clause of a state (01, "A state is any setting of ..").
 use Rattle.kept.specs.Edges.{Seven, Alone, is_rise, EightKept, TenKept, MarkKept}
-use Rattle.std.specs.Prelude.{ℕ, ◌+◌, ◌*◌, ◌%◌, ◌^◌, ◌<◌, ◌≤◌, ◌≡◌, refl, Bool, true, false, cond, ◌||◌, ◌&&◌, not, T, eqb, leb, ltb}
+use Rattle.std.specs.Prelude.{ℕ, ◌+◌, ◌*◌, ◌%◌, ◌^◌, ◌<◌, ◌≤◌, ◌≡◌, refl, Bool, true, false, cond, ◌||◌, ◌&&◌, not, T, eqb, leb, ltb, Option, Some, None}
 use Rattle.std.proofs.Common.{ap, ◌∙◌, true≢false, arith, mod-eq_of_lt, pow-suc, add-one, T_not, leb→le, ltb→lt, le→leb, lt→ltb, ltb-true}
 use mir.Val.{bool_byte}
 use Rattle.std.proofs.lemmas.Bool.{not-false}
 use Rattle.truth.specs.Tests.{and_both, and_left, and_right, or_left, or_right, or_false, neither, by_test, never}
 use Rattle.wire.specs.declared.Bits.{Bits}
-use Rattle.wire.specs.declared.Remembered.{Remembered}
-use Rattle.wire.specs.declared.Remembered.TheVariants.{Nothing, Wire}
+use Rattle.wire.specs.declared.Level.{Level}
 use Rattle.wire.specs.declared.Edge.{Edge}
 use Rattle.wire.specs.declared.Edge.TheVariants.{Still, Start, Stop, Rise, Fall}
 use Rattle.wire.specs.Byte.{bit, none, pushed, whole}
-use Rattle.wire.specs.Wire.{condition, edge_from, is_start}
+use Rattle.wire.specs.Wire.{condition, edge_between, edge_from, is_start, wire}
 use Rattle.wire.specs.Laws.{one}
 use Rattle.address.specs.Comparison.{hit_of, is_taken}
 use Rattle.mssp.specs.declared.Config.{Config}
@@ -27,8 +26,7 @@ use Rattle.mssp.specs.declared.Phase.TheVariants.{Quiet, Address, Data, HeldBefo
 use Rattle.mssp.specs.Module.{is_ten_bit, set_da, set_rw, set_full}
 use Rattle.mssp.specs.Phases.{slot_after, which_number, eight_bits, of_ten_bits}
 use Rattle.mssp.specs.Valid.{bits_fit, parts_fit, address_begins, one_condition, mark_fits, eight_fit, hold_fits}
-use Rattle.sampling.specs.declared.Moved.{Moved}
-use Rattle.sampling.specs.Rules.{intake, address_if, high_if, first_if, low_if, address_fall_if, data_fall_if, followed, awaits_add, fail_ended, slot_ended, bit_sent_if, fallen, risen, edge_step}
+use Rattle.sampling.specs.Rules.{Moved, intake, address_if, high_if, first_if, low_if, address_fall_if, data_fall_if, followed, awaits_add, fail_ended, slot_ended, bit_sent_if, fallen, risen, edge_step}
 
 low : (s b : Bool) → T (s && false && b) → ⊥
 low true b t = t
@@ -254,20 +252,31 @@ edge_stepped c l ph Fall h k o r =
     record { parts = n.parts; hold = n.hold; condition = rw (n.start, n.stop) o; alone = n.alone }
 
 -- A rise comes only where SCL was low, and there eight bits are not.
+rise_between :
+    (mark scl_before before scl sda : Bool) (ph : Phase) → T (eight_fit ph (Some (wire scl_before before)))
+    → T (not (is_rise (edge_between mark scl_before before scl sda)) || not (eight_bits ph))
+rise_between mark false before false sda ph h = tt
+rise_between mark false before true sda ph h = rw or_false at h
+rise_between mark true before false sda ph h = tt
+rise_between mark true before true sda ph h = rw (no_rise mark before sda) tt
+
 pub rise_short :
-    (mark : Bool) (seen : Remembered) (scl sda : Bool) (ph : Phase) → T (eight_fit ph seen)
+    (mark : Bool) (seen : Option Level) (scl sda : Bool) (ph : Phase) → T (eight_fit ph seen)
     → T (not (is_rise (edge_from mark seen scl sda)) || not (eight_bits ph))
-rise_short mark Nothing scl sda ph h = tt
-rise_short mark (Wire false before) false sda ph h = tt
-rise_short mark (Wire false before) true sda ph h = rw or_false at h
-rise_short mark (Wire true before) false sda ph h = tt
-rise_short mark (Wire true before) true sda ph h = rw (no_rise mark before sda) tt
+rise_short mark None scl sda ph h = tt
+rise_short mark (Some before) scl sda ph h = rise_between mark before.scl before.sda scl sda ph h
+
+eight_between :
+    (c : Config) (l : Live) (ph : Phase) (mark scl_before before sda : Bool)
+    → T (parts_fit ph) → T (hold_fits ph l.ckp) → T (eight_fit ph (Some (wire scl_before before)))
+    → T (eight_fit (edge_step c l ph (edge_between mark scl_before before false sda)).phase (Some (wire false sda)))
+eight_between c l ph mark false before sda h k e = e
+eight_between c l ph mark true before sda h k e = or_left (not (eight_bits (fallen c l ph).phase)) false (fall_settled c l ph h k).short
 
 pub eight_kept : EightKept
 eight_kept c l ph mark seen true sda h k e = or_right (not (eight_bits (edge_step c l ph (edge_from mark seen true sda)).phase)) true tt
-eight_kept c l ph mark Nothing false sda h k e = e
-eight_kept c l ph mark (Wire false before) false sda h k e = e
-eight_kept c l ph mark (Wire true before) false sda h k e = or_left (not (eight_bits (fallen c l ph).phase)) false (fall_settled c l ph h k).short
+eight_kept c l ph mark None false sda h k e = e
+eight_kept c l ph mark (Some before) false sda h k e = eight_between c l ph mark before.scl before.sda sda h k e
 
 pub ten_kept : TenKept
 ten_kept c l ph e h alone =
@@ -280,17 +289,23 @@ ten_kept c l ph e h alone =
 -- The mark stands only where a Start made it or nothing has changed since.
 mark_start :
     (c : Config) (l : Live) (ph : Phase) (before sda : Bool)
-    → T (mark_fits (false || is_start (condition false before sda)) (edge_step c l ph (condition false before sda)).live.s (Wire true sda) (edge_step c l ph (condition false before sda)).phase)
+    → T (mark_fits (false || is_start (condition false before sda)) (edge_step c l ph (condition false before sda)).live.s (Some (wire true sda)) (edge_step c l ph (condition false before sda)).phase)
 mark_start c l ph true true = tt
 mark_start c l ph true false = tt
 mark_start c l ph false true = tt
 mark_start c l ph false false = tt
 
+mark_between :
+    (c : Config) (l : Live) (ph : Phase) (mark scl_before before sda : Bool)
+    → T (mark_fits mark l.s (Some (wire scl_before before)) ph)
+    → T (mark_fits (mark || is_start (edge_between mark scl_before before true sda)) (edge_step c l ph (edge_between mark scl_before before true sda)).live.s (Some (wire true sda)) (edge_step c l ph (edge_between mark scl_before before true sda)).phase)
+mark_between c l ph false false before sda h = tt
+mark_between c l ph false true before sda h = mark_start c l ph before sda
+mark_between c l ph true false before sda h = absurd (low l.s (address_begins ph) h)
+mark_between c l ph true true before sda h = h
+
 pub mark_kept : MarkKept
 mark_kept c l ph mark seen false sda h = tt
-mark_kept c l ph false Nothing true sda h = tt
-mark_kept c l ph false (Wire false before) true sda h = tt
-mark_kept c l ph false (Wire true before) true sda h = mark_start c l ph before sda
-mark_kept c l ph true Nothing true sda h = absurd (low l.s (address_begins ph) h)
-mark_kept c l ph true (Wire false before) true sda h = absurd (low l.s (address_begins ph) h)
-mark_kept c l ph true (Wire true before) true sda h = h
+mark_kept c l ph false None true sda h = tt
+mark_kept c l ph true None true sda h = absurd (low l.s (address_begins ph) h)
+mark_kept c l ph mark (Some before) true sda h = mark_between c l ph mark before.scl before.sda sda h

@@ -1,10 +1,11 @@
 -- A state stays a state: after set-up, and after every sample, read and accepted write.
 use Rattle.kept.specs.Kept.{AccessReadKept, AccessWriteKept}
-use Rattle.std.specs.Prelude.{ℕ, ◌%◌, ◌≡◌, refl, Bool, true, false, ◌||◌, ◌&&◌, not, T, eqb}
+use Rattle.std.specs.Prelude.{ℕ, ◌%◌, ◌≡◌, refl, Bool, true, false, ◌||◌, ◌&&◌, not, Result, Ok, Err, T, eqb}
 use Rattle.std.proofs.Common.{sym, ap, subst, ◌∙◌, true≢false, eqb→eq, eqb-true}
 use Rattle.truth.specs.Tests.{and_both, and_left, and_right, or_left, or_right, neither, by_choice}
 use Rattle.wire.specs.Byte.{bit}
 use Rattle.wire.specs.Wire.{edge_of, on_wire, scl_high}
+use Rattle.refusals.specs.declared.Refusal.{Refusal}
 use Rattle.refusals.specs.Numbers.{accepted}
 use Rattle.refusals.specs.Laws.{none-holds}
 use Rattle.mssp.specs.declared.Config.{Config}
@@ -20,9 +21,9 @@ use Rattle.mssp.specs.Phases.{phase_number, is_quiet, is_held_for_add, eight_bit
 use Rattle.mssp.specs.Valid.{Valid, bits_fit, no_bits, parts_fit, address_begins, masks_none, mode_fits, off_fits, mark_fits, eight_fit, hold_fits, ten_fit}
 use Rattle.sampling.specs.Rules.{seen_if, sampled}
 use Rattle.registers.specs.declared.Register.{Register}
-use Rattle.registers.specs.declared.Register.TheVariants.{Buf, Stat, Con1, Con2, Con3, Add, Msk, Flag, Nowhere}
-use Rattle.registers.specs.Values.{register_of, is_buf, after_read}
-use Rattle.writes.specs.Writes.{con1_config, con1_stored, con1_then, written, write_causes, verdict_of}
+use Rattle.registers.specs.declared.Register.TheVariants.{Buf, Stat, Con1, Con2, Con3, Add, Msk, Flag}
+use Rattle.registers.specs.Values.{register_of, is_buf, after_read, read_at}
+use Rattle.writes.specs.Writes.{con1_config, con1_stored, con1_then, written, write_causes, verdict_of, write_at}
 use Rattle.register_bytes.specs.Bytes.{sspm_of}
 use Rattle.register_bytes.proofs.Bits.{bits_back, half_back}
 use Rattle.kept.proofs.Edges.{edge_stepped, rise_short, eight_kept, ten_kept, mark_kept}
@@ -269,7 +270,7 @@ pub write_kept : (r : Register) (v : ℕ) (m : Module) → accepted (verdict_of 
 write_kept Buf v m a h = same m (written Buf v m) refl refl refl refl refl refl refl refl h.mode h
 write_kept Stat v m a h = same m (written Stat v m) refl refl refl refl refl refl refl refl h.mode h
 write_kept Con1 v m a h =
-    let none = (none-holds 0 (write_causes Con1 v m) a).1.1 in
+    let none = (none-holds 0 (write_causes Con1 v m) a).1 in
     con1_kept (m.config.sspen && not (bit 5 v)) (bit 4 v) v m refl refl
     (accepted_mode (bit 5 v) (modelled (bit 2 v) (bit 1 v)) (ten_bits (bit 2 v) (bit 1 v) (bit 0 v)) (masks_none m.config.msk) none.0 none.1.1.0)
     none.1.0 h
@@ -279,14 +280,20 @@ write_kept Add v m a h = updated_kept v m h
 write_kept Msk v m a h =
     same m (written Msk v m) refl refl refl refl refl refl refl refl
     (accepted_mode m.config.sspen (modelled m.config.sspm2 m.config.sspm1) (is_ten_bit m.config) (masks_none v)
-    (mode_stands m.config.sspen (modelled m.config.sspm2 m.config.sspm1) (not (is_ten_bit m.config) || masks_none m.config.msk) h.mode) (none-holds 0 (write_causes Msk v m) a).1.1.1.1.0) h
+    (mode_stands m.config.sspen (modelled m.config.sspm2 m.config.sspm1) (not (is_ten_bit m.config) || masks_none m.config.msk) h.mode) (none-holds 0 (write_causes Msk v m) a).1.1.1.0) h
 write_kept Flag v m a h = same m (written Flag v m) refl refl refl refl refl refl refl refl h.mode h
-write_kept Nowhere v m a h = h
 
 -- By number: an accepted write keeps the state a state, and a refused one leaves it.
 pub access_read_kept : AccessReadKept
-access_read_kept m number v = read_kept (register_of number) m v
+access_read_kept m number h = at (register_of number)
+  where
+    at : (found : Result Register Refusal) → Valid (read_at found m).mssp
+    at (Ok r) = read_kept r m h
+    at (Err why) = h
 
 pub access_write_kept : AccessWriteKept
-access_write_kept m number v h =
-    by_choice Valid (accepted (verdict_of (register_of number) v m)) (λ a. write_kept (register_of number) v m a h) (λ a. h)
+access_write_kept m number v h = at (register_of number)
+  where
+    at : (found : Result Register Refusal) → Valid (write_at found v m).mssp
+    at (Ok r) = by_choice Valid (accepted (verdict_of r v m)) (λ a. write_kept r v m a h) (λ a. h)
+    at (Err why) = h

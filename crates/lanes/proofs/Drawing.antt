@@ -8,7 +8,6 @@ use mir.Val.{bool_byte}
 use Rattle.std.proofs.Math.ListN.{drop, get_or, drop_of_length-le}
 use Rattle.truth.specs.Tests.{never, or_false}
 use Rattle.items.specs.First.{leading, first_above}
-use Rattle.items.specs.Theorems.{first_within}
 use Rattle.wire.specs.declared.Edge.{Edge}
 use Rattle.wire.specs.declared.Edge.TheVariants.{Still, Start, Stop, Rise, Fall}
 use Rattle.wire.specs.Byte.{zero_at}
@@ -216,13 +215,6 @@ module _ (h : Handler) (bytes : List ℕ) where
   stretch_passes m items =
       passed_along FreePasses passes_nowhere (λ P stops goes c enabled l ph wire law. passes_walks P stops goes c enabled l ph wire law) m (take (free_of m.phase items) items)
       (front_free (scl_pulled m.phase) items)
-
-within_if : (held : Bool) (items : List ℕ) → cond held (first_above 1 items) (length items) ≤ length items
-within_if true items = first_within 1 items
-within_if false items = omega arith
-
-pub free_within : (ph : Phase) (items : List ℕ) → free_of ph items ≤ length items
-free_within ph items = within_if (scl_pulled ph) items
 
 -- ---- the loop
 painted_length : (standing : ℕ) (b : Brush) (items : List ℕ) → length (painted standing b items) ≡ length items

@@ -1,10 +1,8 @@
 -- The ways through a drawing over a window: what the code knows on each, and what follows.
-use Rattle.std.specs.Prelude.{ℕ, suc, ◌+◌, ◌-◌, ◌≤◌, ◌≡◌, refl, Bool, true, false, cond, not, List, [], ◌∷◌, ◌++◌, ltb, length, take, drop}
+use Rattle.std.specs.Prelude.{ℕ, suc, ◌+◌, ◌-◌, ◌≤◌, ◌≡◌, refl, Bool, true, false, cond, not, Ok, List, [], ◌∷◌, ◌++◌, ltb, length, take, drop}
 use Rattle.std.proofs.Common.{sym, ap, ap₂, subst, ◌∙◌, arith, length-take-le, ltb-true, ltb-false}
 use Rattle.std.proofs.lemmas.Bool.{not-true}
-use Rattle.refusals.specs.declared.Verdict.{Verdict}
-use Rattle.refusals.specs.declared.Verdict.TheVariants.{Done}
-use Rattle.refusals.specs.Numbers.{accepted}
+use Rattle.refusals.specs.Numbers.{Verdict, accepted}
 use Rattle.firmware.specs.declared.State.{State}
 use Rattle.firmware.specs.Handler.{Served, served}
 use Rattle.firmware.specs.Window.{window_of, splice, WindowOutcome, window_outcome}
@@ -61,10 +59,10 @@ module _ (s : State) (buffer : List ℕ) (start n : ℕ) (items lanes : List ℕ
 
     pub draw_done :
         not a ≡ false → {r : State} {left words : List ℕ} → laned (served r left) words ≡ laned_in s buffer start n part
-        → drawing (window_outcome (Done 0) 0 r left) (words ++ drop count lanes) ≡ draw_in_of s buffer start n items lanes
+        → drawing (window_outcome (Ok 0) 0 r left) (words ++ drop count lanes) ≡ draw_in_of s buffer start n items lanes
     draw_done h {r} {left} {words} e =
         let long : length words ≡ count = ap (λ (d : Laned). length d.lanes) e ∙ words_length (served s (window_of start n buffer)) part ∙ part_length in
-        let o : WindowOutcome = window_outcome (Done 0) 0 r left in
+        let o : WindowOutcome = window_outcome (Ok 0) 0 r left in
         sym (ap (λ (k : ℕ). drawing o (words ++ drop k lanes)) long)
         ∙ ap₂ (λ (x : WindowOutcome) (ws : List ℕ). drawn_if x ws lanes) (all_done 3 s buffer start n part judged told h (ap (λ (d : Laned). d.left) e)) (ap (λ (d : Laned). d.lanes) e)
         ∙ taken_as

@@ -24,17 +24,8 @@ use Rattle.lanes.specs.Writing.{Written, part_written, all_written}
 
 -- ---- so many times the same word
 pub repeated_length : (n word : ℕ) → length (repeated n word) ≡ n
-unfolding repeated
 repeated_length zero word = refl
 repeated_length (suc n) word = ap suc (repeated_length n word)
-
-pub repeated_next : (n i word : ℕ) → i < n → repeated (n - i) word ≡ word ∷ repeated (n - (i + 1)) word
-unfolding repeated
-repeated_next n i word h = let e : n - i ≡ suc (n - (i + 1)) = omega arith in ap (λ (k : ℕ). repeated k word) e
-
-pub repeated_end : (n i word : ℕ) → n ≤ i → repeated (n - i) word ≡ []
-unfolding repeated
-repeated_end n i word h = let e : n - i ≡ 0 = omega arith in ap (λ (k : ℕ). repeated k word) e
 
 -- ---- the same item again
 no_fall : (sends scl : Bool) → sends && scl && not scl ≡ false
@@ -56,14 +47,14 @@ module _ (standing item word : ℕ) (b : Brush) (same : brush_on b item ≡ b) (
       → painted standing b xs ≡ repeated (sames item xs) word ++ painted standing b (drop (sames item xs) xs)
       → painted standing b (x ∷ xs)
       ≡ repeated (cond t (suc (sames item xs)) 0) word ++ painted standing b (drop (cond t (suc (sames item xs)) 0) (x ∷ xs))
-  unfolding painted repeated
+  unfolding painted
   past_if true x xs e rest =
       ap (λ (y : ℕ). ink_of standing b (brush_on b y) y ∷ painted standing (brush_on b y) xs) (eqb-true x item e)
       ∙ ap (λ (c : Brush). ink_of standing b c item ∷ painted standing c xs) same ∙ ap₂ (λ (y : ℕ) (ys : List ℕ). y ∷ ys) ink rest
   past_if false x xs e rest = refl
 
   past : (xs : List ℕ) → painted standing b xs ≡ repeated (sames item xs) word ++ painted standing b (drop (sames item xs) xs)
-  unfolding painted repeated leading
+  unfolding painted leading
   past [] = refl
   past (x ∷ xs) = past_if (eqb x item) x xs refl (past xs)
 
@@ -88,7 +79,6 @@ module _ (standing : ℕ) (items : List ℕ) (i : ℕ) (b : Brush) (h : i < leng
   first = rw (drop-cons items i 0 h, add-one i) refl
 
   goes_if : (again : Bool) → beq b.pulls next.pulls ≡ again → Goes again
-  unfolding repeated
   goes_if true e =
       let k : ℕ = sames item (drop (i + 1) items) in
       let far : i + 1 + k - i ≡ suc k = omega arith in

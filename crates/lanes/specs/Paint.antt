@@ -1,6 +1,6 @@
 -- The words of a stretch, painted: while nothing but bits and wire move, a word is its standing part with the wire, with SDA pulled
 -- and with a conflict, if there is one.
-use Rattle.std.specs.Prelude.{ℕ, zero, suc, ◌+◌, ◌%◌, Bool, false, cond, ◌&&◌, ◌||◌, not, List, [], ◌∷◌, eqb, drop}
+use Rattle.std.specs.Prelude.{ℕ, ◌+◌, ◌%◌, Bool, false, cond, ◌&&◌, ◌||◌, not, List, [], ◌∷◌, eqb, drop, replicate}
 use Rattle.items.specs.First.{sames}
 use Rattle.wire.specs.declared.Edge.TheVariants.{Still}
 use Rattle.wire.specs.Byte.{zero_at}
@@ -49,9 +49,8 @@ painted standing b [] = []
 painted standing b (item ∷ items) = ink_of standing b (brush_on b item) item ∷ painted standing (brush_on b item) items
 
 -- The same word so many times.
-unfoldable pub repeated : ℕ → ℕ → List ℕ
-repeated zero word = []
-repeated (suc n) word = word ∷ repeated n word
+abbrev pub repeated : ℕ → ℕ → List ℕ
+repeated n word = replicate n word
 
 -- Where the items go on after one: past those that are the same, where they leave the same word.
 abbrev pub same_until : List ℕ → ℕ → ℕ → Bool → ℕ

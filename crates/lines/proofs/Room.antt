@@ -1,13 +1,12 @@
 -- How long a report gets: 480,046 bytes hold every one.
-use Rattle.std.specs.Prelude.{ℕ, ◌+◌, ◌*◌, ◌<◌, ◌≤◌, ◌≡◌, refl, Bool, true, false, cond, List, [], ◌∷◌, ◌++◌, ltb, length, drop}
+use Rattle.std.specs.Prelude.{ℕ, ◌+◌, ◌*◌, ◌<◌, ◌≤◌, ◌≡◌, refl, Bool, true, false, cond, List, [], ◌∷◌, ◌++◌, ltb, length, drop, Option, Some, None}
 use Rattle.std.proofs.Common.{ap₂, ◌∙◌, arith, zero-add, length-append, length-drop, ltb-false}
 use mir.Val.{bool_byte}
 use Rattle.std.proofs.lemmas.List.Edits.{sets-eq}
 use Rattle.wire.specs.declared.Bits.{Bits}
-use Rattle.wire.specs.declared.Remembered.{Remembered}
-use Rattle.wire.specs.declared.Remembered.TheVariants.{Nothing, Wire}
+use Rattle.wire.specs.declared.Level.{Level}
 use Rattle.wire.specs.Byte.{whole as wholeBits}
-use Rattle.wire.specs.Wire.{on_wire}
+use Rattle.wire.specs.Wire.{on_wire, wire}
 use Rattle.mssp.specs.Drivers.{scl_pulled, sda_pulled}
 use Rattle.address.specs.declared.Hit.{Hit}
 use Rattle.memory.specs.Memory.{Memory, modulo, put}
@@ -15,13 +14,12 @@ use Rattle.memory.proofs.Laws.{modulo-below}
 use Rattle.firmware.specs.declared.Handler.{Handler}
 use Rattle.firmware.specs.declared.State.{State}
 use Rattle.firmware.specs.Handler.{handler_of, memory_in, acknowledged, serve, called_if}
-use Rattle.reader.specs.declared.Ninth.TheVariants.{Waiting, Got}
 use Rattle.reader.specs.declared.Place.{Place}
 use Rattle.reader.specs.declared.Place.TheVariants.{Idle, Within, Ending}
 use Rattle.reader.specs.declared.Heard.{Heard}
 use Rattle.reader.specs.declared.Heard.TheVariants.{Silence, Started, Stopped, Byte}
 use Rattle.reader.specs.declared.Reader.{Reader}
-use Rattle.reader.specs.Reader.{within_fall, fall_place, rise_place, fall_heard, reader_after, heard_of}
+use Rattle.reader.specs.Reader.{line, reader_of, within_fall, fall_place, rise_place, fall_heard, reader_after, heard_of}
 use Rattle.reader.specs.Laws.{Marks, no_mark, new_mark, marks_kept}
 use Rattle.steps.specs.declared.Item.{Item}
 use Rattle.steps.specs.declared.Item.TheVariants.{Sample, Call, Read, Write}
@@ -75,12 +73,15 @@ weight Started = 2
 weight Stopped = 2
 weight (Byte first byte level) = 2
 
-abbrev line_credit : Bool → Remembered → ℕ
-line_credit mark Nothing = 1
-line_credit mark (Wire false sda) = 1
-line_credit true (Wire true sda) = 0
-line_credit false (Wire true true) = 1
-line_credit false (Wire true false) = 2
+abbrev level_credit : Bool → Bool → Bool → ℕ
+level_credit mark false sda = 1
+level_credit true true sda = 0
+level_credit false true true = 1
+level_credit false true false = 2
+
+abbrev line_credit : Bool → Option Level → ℕ
+line_credit mark None = 1
+line_credit mark (Some level) = level_credit mark level.scl level.sda
 
 abbrev place_credit : Place → ℕ
 place_credit Idle = 0
@@ -102,24 +103,30 @@ within_credit false first bits = omega arith
 fall_credit : (place : Place) → weight (fall_heard place) + place_credit (fall_place place) ≤ 1 + place_credit place
 fall_credit Idle = omega arith
 fall_credit (Within first bits) = omega (arith, within_credit (wholeBits bits) first bits)
-fall_credit (Ending first byte Waiting) = omega arith
-fall_credit (Ending first byte (Got level)) = omega arith
+fall_credit (Ending first byte None) = omega arith
+fall_credit (Ending first byte (Some level)) = omega arith
+
+paid_between :
+    (scl_before before scl sda : Bool) (place : Place)
+    → (let r : Reader = reader_of (line (Some (wire scl_before before)) false) place in
+    weight (heard_of r scl sda) + credit (reader_after r scl sda) ≤ 1 + credit r)
+paid_between false before false sda place = omega arith
+paid_between false before true true place = omega (arith, rise_credit place true)
+paid_between false before true false place = omega (arith, rise_credit place false)
+paid_between true true false sda place = omega (arith, fall_credit place)
+paid_between true false false sda place = omega (arith, fall_credit place)
+paid_between true true true true place = omega arith
+paid_between true true true false place = omega arith
+paid_between true false true true place = omega arith
+paid_between true false true false place = omega arith
 
 paid :
     {r : Reader} → Marks r → (scl sda : Bool)
     → weight (heard_of r scl sda) + credit (reader_after r scl sda) ≤ 1 + credit r
-paid (no_mark {seen = Nothing}) true true = omega arith
-paid (no_mark {seen = Nothing}) true false = omega arith
-paid (no_mark {seen = Nothing}) false sda = omega arith
-paid (no_mark {seen = Wire false before}) false sda = omega arith
-paid (no_mark {seen = Wire false before} {place = place}) true true = omega (arith, rise_credit place true)
-paid (no_mark {seen = Wire false before} {place = place}) true false = omega (arith, rise_credit place false)
-paid (no_mark {seen = Wire true true} {place = place}) false sda = omega (arith, fall_credit place)
-paid (no_mark {seen = Wire true false} {place = place}) false sda = omega (arith, fall_credit place)
-paid (no_mark {seen = Wire true true}) true true = omega arith
-paid (no_mark {seen = Wire true true}) true false = omega arith
-paid (no_mark {seen = Wire true false}) true true = omega arith
-paid (no_mark {seen = Wire true false}) true false = omega arith
+paid (no_mark {seen = None}) true true = omega arith
+paid (no_mark {seen = None}) true false = omega arith
+paid (no_mark {seen = None}) false sda = omega arith
+paid (no_mark {seen = Some before} {place = place}) scl sda = paid_between before.scl before.sda scl sda place
 paid new_mark true sda = omega arith
 paid new_mark false sda = omega arith
 

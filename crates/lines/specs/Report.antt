@@ -1,16 +1,19 @@
 -- The report (01, "Report program"; 02, 1): from the bytes of the input to the bytes of the output.
-use Rattle.std.specs.Prelude.{ℕ, ◌+◌, Bool, cond, List, [], ◌∷◌, ◌++◌, ltb, length}
+use Rattle.std.specs.Prelude.{ℕ, ◌+◌, Bool, cond, List, [], ◌∷◌, ◌++◌, Some, None, Ok, Err, ltb, length}
 use Rattle.refusals.specs.declared.Refusal.TheVariants.{NoItem}
 use Rattle.refusals.specs.Numbers.{number_of}
 use Rattle.steps.specs.declared.Item.{Item}
-use Rattle.input.specs.declared.Meaning.{Meaning}
-use Rattle.input.specs.declared.Meaning.TheVariants.{Skipped, AnItem, Foreign}
-use Rattle.input.specs.Input.{asks_general, item_bytes, Parsed, all, foreign, parse}
+use Rattle.input.specs.Input.{Meaning, asks_general, item_bytes, Parsed, all, foreign, parse}
 use Rattle.watch.specs.declared.World.{World}
 use Rattle.watch.specs.Watch.{Scene, scene_after, world_afresh, memory_afresh}
 use Rattle.text.specs.Text.{said, decimal, event_line, numbered}
 use Rattle.text.specs.Page.{Page, page, penned}
-use Rattle.lines.specs.declared.Run.{Run}
+
+-- The line of an item with this number, over this memory.
+abbrev pub line_of : World → List ℕ → ℕ → Item → List ℕ
+line_of w memory item x =
+    let s : Scene = scene_after w memory x in
+    event_line item s.watched.heard s.watched.hit s.watched.world.state.handler.pointer
 
 -- The lines of the items, numbered from `item` on; the pointer is that after the item.
 unfoldable pub lines_from : World → List ℕ → ℕ → List Item → List ℕ
@@ -36,6 +39,12 @@ report_of input =
     cond (ltb 60000 (length input)) (said "too long\n") (parsed_report (asks_general input) (parse (item_bytes input)))
 
 -- ---- the report as code goes through it, byte by byte
+-- The world, the next item's number, the place of the next byte.
+pub record Run : Type 0 where
+  pub world : World
+  pub item : ℕ
+  pub at : ℕ
+
 abbrev pub run_at : World → ℕ → ℕ → Run
 run_at world item at = record { world = world; item = item; at = at }
 
@@ -54,6 +63,6 @@ item_passed run memory output x =
     progress (run_at s.watched.world (run.item + 1) p.at) s.memory p.bytes
 
 abbrev pub byte_passed : Run → List ℕ → List ℕ → Meaning → Progress
-byte_passed run memory output Skipped = progress run memory output
-byte_passed run memory output (AnItem x) = item_passed run memory output x
-byte_passed run memory output Foreign = progress run memory output
+byte_passed run memory output (Ok None) = progress run memory output
+byte_passed run memory output (Ok (Some x)) = item_passed run memory output x
+byte_passed run memory output (Err e) = progress run memory output

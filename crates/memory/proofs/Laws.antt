@@ -3,9 +3,6 @@ use Rattle.std.specs.Prelude.{ℕ, ◌%◌, ◌<◌, ◌≡◌}
 use Rattle.std.proofs.Common.{arith, mod-lt, ne_eqb}
 use Rattle.memory.specs.Memory.{modulo}
 
-pub positive : (n : ℕ) → (n ≡ 0 → ⊥) → 0 < n
-positive n h = omega arith
-
 -- For every memory that there is, modulo is the remainder, and the pointer stays below n.
 pub modulo_is : (n x : ℕ) → 0 < n → modulo n x ≡ x % n
 modulo_is n x h = let z : n ≡ 0 → ⊥ = λ e. omega arith in simp (ne_eqb n 0 z)

@@ -1,9 +1,8 @@
 -- What a read, a write, a sample, a look and a question which address hits answer and leave, for every input (01, "Calls,
 -- refusals and their order"; 02, 1).
-use Rattle.std.specs.Prelude.{ℕ, cond, List, ltb}
+use Rattle.std.specs.Prelude.{ℕ, cond, Ok, Err, List, ltb}
 use Rattle.refusals.specs.declared.Refusal.TheVariants.{NoState, NoItem}
-use Rattle.refusals.specs.declared.Verdict.{Verdict}
-use Rattle.refusals.specs.declared.Verdict.TheVariants.{Done, Refused}
+use Rattle.refusals.specs.Numbers.{Verdict}
 use Rattle.mssp.specs.declared.Module.{Module}
 use Rattle.address.specs.Comparison.{hit_number, hit_of}
 use Rattle.registers.specs.Values.{read_of}
@@ -33,7 +32,7 @@ door_write bytes number value = by_access module_in image_with (decode_of bytes)
 
 -- ---- a sample: a level is 0 to 3
 abbrev pub level_verdict : ℕ → Verdict
-level_verdict level = cond (ltb 3 level) (Refused NoItem) (Done 0)
+level_verdict level = cond (ltb 3 level) (Err NoItem) (Ok 0)
 
 abbrev pub door_sample : List ℕ → ℕ → Outcome
 door_sample bytes level =

@@ -1,17 +1,15 @@
 -- What the code of these calls knows on each way, and what follows: of bytes that were found to be an image.
-use Rattle.std.specs.Prelude.{ℕ, ◌<◌, ◌≤◌, ◌≡◌, Bool, true, false, ◌&&◌, List, [], ◌∷◌, T, length}
+use Rattle.std.specs.Prelude.{ℕ, ◌<◌, ◌≤◌, ◌≡◌, Bool, true, false, ◌&&◌, Ok, Err, List, [], ◌∷◌, T, length, Option, Some}
 use Rattle.std.proofs.Math.Path.{sym, ap, ap₂}
 use Rattle.std.proofs.Common.{◌∙◌, arith, lt-ltb, le-ltb}
 use Rattle.std.proofs.Math.Bool.{and-false}
 use Rattle.truth.specs.Tests.{and_left, and_right}
 use Rattle.refusals.specs.declared.Refusal.{Refusal}
 use Rattle.refusals.specs.declared.Refusal.TheVariants.{NoItem}
-use Rattle.refusals.specs.declared.Verdict.TheVariants.{Done, Refused}
 use Rattle.codec.proofs.Laws.{so}
 use Rattle.wire.specs.declared.Line.{Line}
-use Rattle.wire.specs.declared.Remembered.{Remembered}
-use Rattle.wire.specs.declared.Remembered.TheVariants.{Wire}
-use Rattle.wire.specs.Wire.{scl_high}
+use Rattle.wire.specs.declared.Level.{Level}
+use Rattle.wire.specs.Wire.{scl_high, wire}
 use Rattle.mssp.specs.declared.Phase.{Phase}
 use Rattle.mssp.specs.declared.Module.{Module}
 use Rattle.mssp.specs.declared.Stand.{Stand}
@@ -20,7 +18,7 @@ use Rattle.mssp.specs.Valid.{address_begins, mark_fits, valid}
 use Rattle.mssp.specs.Laws.{clauses}
 use Rattle.sampling.specs.Still.{is_still}
 use Rattle.sampling.proofs.Laws.{sampled_still}
-use Rattle.registers.specs.declared.Access.{Access}
+use Rattle.registers.specs.Values.{Access}
 use Rattle.module_image.specs.ModulePart.{module_length, module_from, with_module, with_stand}
 use Rattle.stretch.specs.declared.Stretch.{Stretch}
 use Rattle.stretch.specs.Seen.{line_of}
@@ -40,7 +38,7 @@ use Rattle.module_calls.specs.Calls.{image_with, level_verdict}
 
 -- ---- the mark of a valid module stands with SCL high alone
 stands_if :
-    (mark s : Bool) (seen : Remembered) (ph : Phase) {scl sda : Bool} → T (mark_fits mark s seen ph) → seen ≡ Wire scl sda
+    (mark s : Bool) (seen : Option Level) (ph : Phase) {scl sda : Bool} → T (mark_fits mark s seen ph) → seen ≡ Some (wire scl sda)
     → scl && mark ≡ mark
 stands_if false s seen ph {scl} h e = and-false scl
 stands_if true s seen ph h e =
@@ -64,12 +62,12 @@ module _ (b : List ℕ) (t : is_state b ≡ true) where
   -- ---- an access
   module _ (access : Access) {r : Answer} where
     pub access_saved :
-        {value : ℕ} {left : List ℕ} → access.verdict ≡ Done value → r ≡ done value → left ≡ with_module access.mssp b
+        {value : ℕ} {left : List ℕ} → access.verdict ≡ Ok value → r ≡ done value → left ≡ with_module access.mssp b
         → outcome r left ≡ settled_access (image_with (parse_of b)) access b
     access_saved e f g = settle_done 0 (image_with (parse_of b) access.mssp) b e f (g ∙ module_over b t access.mssp)
 
     pub access_refused :
-        {why : Refusal} → access.verdict ≡ Refused why → r ≡ refused why 0
+        {why : Refusal} → access.verdict ≡ Err why → r ≡ refused why 0
         → outcome r b ≡ settled_access (image_with (parse_of b)) access b
     access_refused e f = settle_refused 0 (image_with (parse_of b) access.mssp) b e f
 
@@ -87,11 +85,11 @@ module _ (b : List ℕ) (t : is_state b ≡ true) where
     -- The short way: every byte stays.
     pub short_way :
         {ph : Phase} {line : Line} {scl sda still : Bool} {r : Answer} → ph ≡ (module_from b).phase → line ≡ (module_from b).line
-        → line.remembered ≡ Wire scl sda → still ≡ is_still ph scl sda level → still ≡ true → r ≡ done 0 → Leaves r b
+        → line.remembered ≡ Some (wire scl sda) → still ≡ is_still ph scl sda level → still ≡ true → r ≡ done 0 → Leaves r b
     unfolding parse_of
     short_way {scl = scl} {sda = sda} e k seen is same f =
         let m : Module = module_from b in
-        let remembered : m.line.remembered ≡ Wire scl sda = sym (ap (λ (x : Line). x.remembered) k) ∙ seen in
+        let remembered : m.line.remembered ≡ Some (wire scl sda) = sym (ap (λ (x : Line). x.remembered) k) ∙ seen in
         let v = clauses m (and_left (valid m) (handler_valid (parse_of b).handler) (state_valid b t)) in
         let stands = stands_if m.line.mark m.live.s m.line.remembered m.phase v.mark remembered in
         let stays = sampled_still m level remembered stands (sym (is ∙ ap (λ (x : Phase). is_still x scl sda level) e) ∙ same) in

@@ -4,54 +4,63 @@
 #![tactic(auto)]
 
 ghost use Rattle.std.specs.Prelude.{◌≡◌, ◌≤◌, true};
+ghost use Rattle.registers.specs.Values.{access_of};
+ghost use Rattle.writes.specs.Writes.{write_of};
 ghost use Rattle.trace.specs.Run.{sampled_by};
 ghost use Rattle.image.specs.Image.{encode_of, parse_of, is_state};
 ghost use Rattle.settling.specs.Outcome.{outcome, done, settled_access};
 ghost use Rattle.module_calls.specs.Calls.{image_with, door_read, door_write, door_sample, door_look, door_hit};
 
-use image::Decoded;
-use refusals::{Refusal, Verdict};
-use registers::Access;
+use mssp::Module;
+use refusals::Refusal;
 use settling::Answer;
 use view::View;
-use wire::Remembered;
+use wire::Level;
 
 // A register access reaches the module alone: nothing else of the image is written.
-fn settle_access(state: &mut [u8], access: Access) -> Answer
+fn settle_access(state: &mut [u8], left: Module, access: Result<u8, Refusal>) -> Answer
     requires { is_state state.old ≡ true }
-    ensures { outcome result state.new ≡ settled_access (image_with (parse_of state.old)) access state.old }
+    ensures { outcome result state.new ≡ settled_access (image_with (parse_of state.old)) (access_of access left) state.old }
 {
-    let verdict = access.verdict;
-    let left = access.mssp;
-    match verdict {
-        Verdict::Done(value) => {
+    match access {
+        Ok(value) => {
             module_image::save(left, state);
-            settling::done(value)
+            Answer::done(value)
         }
-        Verdict::Refused(why) => settling::refuse(why, 0),
+        Err(why) => Answer::from(why),
     }
 }
 
-// Reads a register. Refuses with 6, 1.
+/// Reads a register. Refuses with 6, 1.
 pub fn read(state: &mut [u8], number: u32) -> Answer
     ensures { outcome result state.new ≡ door_read state.old number }
 {
     if !image::is_image(state) {
-        return settling::no_state();
+        return Answer::from(Refusal::NoState);
     }
-    let m = module_image::module_from(state);
-    settle_access(state, registers::read(m, number))
+    let mut left = module_image::module_from(state);
+    let access = registers::read(&mut left, number);
+    settle_access(state, left, access)
 }
 
-// Writes a register. Refuses with 6, 1, 2, 3, 8, 9.
+// A write that is done answers 0.
+fn written(left: &mut Module, number: u32, value: u8) -> Result<u8, Refusal>
+    ensures { access_of result left.new ≡ write_of left.old number value }
+{
+    writes::write(left, number, value)?;
+    Ok(0)
+}
+
+/// Writes a register. Refuses with 6, 1, 2, 3, 8, 9.
 pub fn write(state: &mut [u8], number: u32, value: u8) -> Answer
     ensures { outcome result state.new ≡ door_write state.old number value }
 {
     if !image::is_image(state) {
-        return settling::no_state();
+        return Answer::from(Refusal::NoState);
     }
-    let m = module_image::module_from(state);
-    settle_access(state, writes::write(m, number, value))
+    let mut left = module_image::module_from(state);
+    let access = written(&mut left, number, value);
+    settle_access(state, left, access)
 }
 
 // A sample that moves something. Where the level is a stretch of its own, the registers' bytes stay; else the module is built,
@@ -64,15 +73,14 @@ fn move_on(state: &mut [u8], level: u8) -> Answer
     let s = module_image::stand_in(state);
     let ahead = stretch::over(s, level);
     if ahead.length > 0 {
-        let phase = ahead.phase;
         let line = stretch::line_of(ahead.wire);
-        module_image::save_stand(phase, line, state);
-        return settling::done(0);
+        module_image::save_stand(ahead.phase, line, state);
+        return Answer::done(0);
     }
-    let m = module_image::module_from(state);
-    let next = sampling::sample(m, level / 2 % 2 == 1, level / 1 % 2 == 1);
-    module_image::save(next, state);
-    settling::done(0)
+    let mut m = module_image::module_from(state);
+    sampling::sample(&mut m, Level::from(level));
+    module_image::save(m, state);
+    Answer::done(0)
 }
 
 // Feeds one sample. Refuses with 6, 4 (a level above 3). The short way: a level that is on the wire what is remembered of it
@@ -81,20 +89,20 @@ pub fn sample(state: &mut [u8], level: u32) -> Answer
     ensures { outcome result state.new ≡ door_sample state.old level }
 {
     if !image::is_image(state) {
-        return settling::no_state();
+        return Answer::from(Refusal::NoState);
     }
     let too_high = level > 3;
     if too_high {
-        return settling::refuse(Refusal::NoItem, 0);
+        return Answer::from(Refusal::NoItem);
     }
     let phase = module_image::phase_in(state);
     let line = module_image::line_in(state);
-    let remembered = line.remembered;
-    match remembered {
-        Remembered::Nothing => move_on(state, level as u8),
-        Remembered::Wire(scl, sda) => {
-            if sampling::is_still(phase, scl, sda, level as u8) {
-                settling::done(0)
+    // Stays: called from two places, `move_on` stays a function by itself (docs/DECISIONS.md; tools/stack.sh asks for it).
+    match line.remembered {
+        None => move_on(state, level as u8),
+        Some(before) => {
+            if sampling::is_still(phase, before, level as u8) {
+                Answer::done(0)
             } else {
                 move_on(state, level as u8)
             }
@@ -107,8 +115,8 @@ pub fn look(state: &[u8]) -> View
     ensures { result ≡ door_look state.now }
 {
     match image::decode(state) {
-        Decoded::NoImage => view::no_view(),
-        Decoded::Image(s) => view::draw(s),
+        None => View::no_view(),
+        Some(s) => View::from(s),
     }
 }
 
@@ -117,15 +125,10 @@ pub fn hit(state: &[u8], byte: u8) -> Answer
     ensures { result ≡ door_hit state.now byte }
 {
     match image::decode(state) {
-        Decoded::NoImage => settling::no_state(),
-        Decoded::Image(s) => {
-            let m = s.mssp;
-            let which = address::compare(m.config, byte);
-            Answer {
-                refusal: 0,
-                value: address::number(which) as u32,
-                item: 0,
-            }
+        None => Answer::from(Refusal::NoState),
+        Some(s) => {
+            let hit = address::compare(s.mssp.config, byte);
+            Answer::done(hit.number())
         }
     }
 }

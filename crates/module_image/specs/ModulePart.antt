@@ -16,6 +16,7 @@ use Rattle.mssp.specs.Valid.{valid}
 use Rattle.registers.specs.declared.Register.TheVariants.{Buf, Stat, Con1, Con2, Con3, Add, Msk, Flag}
 use Rattle.registers.specs.Values.{held_by}
 use Rattle.phase_image.specs.PhasePart.{phase_from, wire_byte, line_from, stand_part}
+use Rattle.module_image.specs.declared.Part.{Part}
 
 abbrev pub module_length : ℕ
 module_length = 16
@@ -55,6 +56,41 @@ module_from b =
     (live_from (get_or b 0 0) (get_or b 1 0) (get_or b 2 0) (get_or b 3 0) (get_or b 4 0) (get_or b 7 0) (get_or b 15 0))
     (phase_from (get_or b 8 0) (get_or b 9 0) (get_or b 10 0) (get_or b 11 0) (get_or b 14 0))
     (line_from (get_or b 12 0) (get_or b 13 0))
+
+-- ---- the sixteen bytes by what they are
+abbrev pub part_of : List ℕ → Part
+part_of b =
+    record {
+      buf = get_or b 0 0;
+      stat = get_or b 1 0;
+      con1 = get_or b 2 0;
+      con2 = get_or b 3 0;
+      con3 = get_or b 4 0;
+      add = get_or b 5 0;
+      msk = get_or b 6 0;
+      flag = get_or b 7 0;
+      number = get_or b 8 0;
+      count = get_or b 9 0;
+      value = get_or b 10 0;
+      mark = get_or b 11 0;
+      wire = get_or b 12 0;
+      marked = get_or b 13 0;
+      which = get_or b 14 0;
+      full = get_or b 15 0;
+    }
+
+abbrev pub bytes_of : Part → List ℕ
+bytes_of p =
+    p.buf ∷ p.stat ∷ p.con1 ∷ p.con2 ∷ p.con3 ∷ p.add ∷ p.msk ∷ p.flag
+    ∷ p.number ∷ p.count ∷ p.value ∷ p.mark ∷ p.wire ∷ p.marked ∷ p.which ∷ p.full ∷ []
+
+-- The module that they name.
+abbrev pub module_in : Part → Module
+module_in p =
+    module_of (config_from p.stat p.con1 p.con2 p.con3 p.add p.msk)
+    (live_from p.buf p.stat p.con1 p.con2 p.con3 p.flag p.full)
+    (phase_from p.number p.count p.value p.mark p.which)
+    (line_from p.wire p.marked)
 
 -- ---- bytes that begin with a module's part
 -- They begin with the part of the module that they name, and it is valid.

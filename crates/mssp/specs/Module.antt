@@ -16,53 +16,41 @@ live_of s p da rw bf sspov ckp ackstat acktim sspif full buf =
     record { s = s; p = p; da = da; rw = rw; bf = bf; sspov = sspov; ckp = ckp; ackstat = ackstat; acktim = acktim; sspif = sspif; full = full; buf = buf }
 
 abbrev pub set_s : Bool → Live → Live
-set_s v l =
-    live_of v l.p l.da l.rw l.bf l.sspov l.ckp l.ackstat l.acktim l.sspif l.full l.buf
+set_s v l = record l { s = v }
 
 abbrev pub set_p : Bool → Live → Live
-set_p v l =
-    live_of l.s v l.da l.rw l.bf l.sspov l.ckp l.ackstat l.acktim l.sspif l.full l.buf
+set_p v l = record l { p = v }
 
 abbrev pub set_da : Bool → Live → Live
-set_da v l =
-    live_of l.s l.p v l.rw l.bf l.sspov l.ckp l.ackstat l.acktim l.sspif l.full l.buf
+set_da v l = record l { da = v }
 
 abbrev pub set_rw : Bool → Live → Live
-set_rw v l =
-    live_of l.s l.p l.da v l.bf l.sspov l.ckp l.ackstat l.acktim l.sspif l.full l.buf
+set_rw v l = record l { rw = v }
 
 abbrev pub set_bf : Bool → Live → Live
-set_bf v l =
-    live_of l.s l.p l.da l.rw v l.sspov l.ckp l.ackstat l.acktim l.sspif l.full l.buf
+set_bf v l = record l { bf = v }
 
 abbrev pub set_sspov : Bool → Live → Live
-set_sspov v l =
-    live_of l.s l.p l.da l.rw l.bf v l.ckp l.ackstat l.acktim l.sspif l.full l.buf
+set_sspov v l = record l { sspov = v }
 
 abbrev pub set_ckp : Bool → Live → Live
-set_ckp v l =
-    live_of l.s l.p l.da l.rw l.bf l.sspov v l.ackstat l.acktim l.sspif l.full l.buf
+set_ckp v l = record l { ckp = v }
 
 abbrev pub set_ackstat : Bool → Live → Live
-set_ackstat v l =
-    live_of l.s l.p l.da l.rw l.bf l.sspov l.ckp v l.acktim l.sspif l.full l.buf
+set_ackstat v l = record l { ackstat = v }
 
 abbrev pub set_acktim : Bool → Live → Live
-set_acktim v l =
-    live_of l.s l.p l.da l.rw l.bf l.sspov l.ckp l.ackstat v l.sspif l.full l.buf
+set_acktim v l = record l { acktim = v }
 
 abbrev pub set_sspif : Bool → Live → Live
-set_sspif v l =
-    live_of l.s l.p l.da l.rw l.bf l.sspov l.ckp l.ackstat l.acktim v l.full l.buf
+set_sspif v l = record l { sspif = v }
 
 -- The full match (02, 9) is no register's bit.
 abbrev pub set_full : Bool → Live → Live
-set_full v l =
-    live_of l.s l.p l.da l.rw l.bf l.sspov l.ckp l.ackstat l.acktim l.sspif v l.buf
+set_full v l = record l { full = v }
 
 abbrev pub set_buf : ℕ → Live → Live
-set_buf v l =
-    live_of l.s l.p l.da l.rw l.bf l.sspov l.ckp l.ackstat l.acktim l.sspif l.full v
+set_buf v l = record l { buf = v }
 
 -- ---- what the registers hold and no edge changes
 abbrev pub config_of : Bool → Bool → Bool → Bool → Bool → Bool → Bool → Bool → Bool → Bool → Bool → Bool → Bool → Bool → Bool → Bool → Bool → ℕ → ℕ → Config
@@ -70,32 +58,29 @@ config_of smp cke wcol sspen sspm3 sspm2 sspm1 sspm0 gcen ackdt sen pcie scie sd
     record { smp = smp; cke = cke; wcol = wcol; sspen = sspen; sspm3 = sspm3; sspm2 = sspm2; sspm1 = sspm1; sspm0 = sspm0; gcen = gcen; ackdt = ackdt; sen = sen; pcie = pcie; scie = scie; sdaht = sdaht; sbcde = sbcde; ahen = ahen; dhen = dhen; add = add; msk = msk }
 
 abbrev pub set_wcol : Bool → Config → Config
-set_wcol v c =
-    config_of c.smp c.cke v c.sspen c.sspm3 c.sspm2 c.sspm1 c.sspm0 c.gcen c.ackdt c.sen c.pcie c.scie c.sdaht c.sbcde c.ahen c.dhen c.add c.msk
+set_wcol v c = record c { wcol = v }
 
 abbrev pub set_stat : Bool → Bool → Config → Config
 set_stat smp cke c =
-    config_of smp cke c.wcol c.sspen c.sspm3 c.sspm2 c.sspm1 c.sspm0 c.gcen c.ackdt c.sen c.pcie c.scie c.sdaht c.sbcde c.ahen c.dhen c.add c.msk
+    record c { smp = smp; cke = cke }
 
 abbrev pub set_con1 : Bool → Bool → Bool → Bool → Bool → Bool → Config → Config
 set_con1 wcol sspen sspm3 sspm2 sspm1 sspm0 c =
-    config_of c.smp c.cke wcol sspen sspm3 sspm2 sspm1 sspm0 c.gcen c.ackdt c.sen c.pcie c.scie c.sdaht c.sbcde c.ahen c.dhen c.add c.msk
+    record c { wcol = wcol; sspen = sspen; sspm3 = sspm3; sspm2 = sspm2; sspm1 = sspm1; sspm0 = sspm0 }
 
 abbrev pub set_con2 : Bool → Bool → Bool → Config → Config
 set_con2 gcen ackdt sen c =
-    config_of c.smp c.cke c.wcol c.sspen c.sspm3 c.sspm2 c.sspm1 c.sspm0 gcen ackdt sen c.pcie c.scie c.sdaht c.sbcde c.ahen c.dhen c.add c.msk
+    record c { gcen = gcen; ackdt = ackdt; sen = sen }
 
 abbrev pub set_con3 : Bool → Bool → Bool → Bool → Bool → Bool → Config → Config
 set_con3 pcie scie sdaht sbcde ahen dhen c =
-    config_of c.smp c.cke c.wcol c.sspen c.sspm3 c.sspm2 c.sspm1 c.sspm0 c.gcen c.ackdt c.sen pcie scie sdaht sbcde ahen dhen c.add c.msk
+    record c { pcie = pcie; scie = scie; sdaht = sdaht; sbcde = sbcde; ahen = ahen; dhen = dhen }
 
 abbrev pub set_add : ℕ → Config → Config
-set_add v c =
-    config_of c.smp c.cke c.wcol c.sspen c.sspm3 c.sspm2 c.sspm1 c.sspm0 c.gcen c.ackdt c.sen c.pcie c.scie c.sdaht c.sbcde c.ahen c.dhen v c.msk
+set_add v c = record c { add = v }
 
 abbrev pub set_msk : ℕ → Config → Config
-set_msk v c =
-    config_of c.smp c.cke c.wcol c.sspen c.sspm3 c.sspm2 c.sspm1 c.sspm0 c.gcen c.ackdt c.sen c.pcie c.scie c.sdaht c.sbcde c.ahen c.dhen c.add v
+set_msk v c = record c { msk = v }
 
 -- SSPM 0110 and 1110 are modelled, and for ten bits 0111 and 1111 (02, 9); those with SSPM3 interrupt at Start and Stop.
 abbrev pub modelled : Bool → Bool → Bool
@@ -130,7 +115,7 @@ fresh =
 -- Set up by the handler with an ADD (01, "Handler and plain device"): CON1 36, CON2 01, CON3 00, MSK FF.
 abbrev pub chosen : ℕ → Config
 chosen add =
-    config_of false false false true false true true false false false true false false false false false false add 255
+    record fresh.config { sspen = true; sspm2 = true; sspm1 = true; sen = true; add = add }
 
 abbrev pub setup : ℕ → Module
 setup add = module_of (chosen add) (set_ckp true fresh.live) Quiet unseen

@@ -1,6 +1,6 @@
 -- The phases (01, "From levels to bytes"): the number and the parts of each, which are listed here and nowhere else, and what is
 -- asked of a phase, which is read off them.
-use Rattle.std.specs.Prelude.{ℕ, Bool, cond, ◌&&◌, ◌||◌, not, eqb}
+use Rattle.std.specs.Prelude.{ℕ, Bool, Result, Ok, Err, if◌then◌else◌, cond, ◌&&◌, ◌||◌, not, eqb, ◌==◌}
 use mir.Val.{bool_byte}
 use Rattle.wire.specs.declared.Bits.{Bits}
 use Rattle.wire.specs.Byte.{none, whole}
@@ -10,6 +10,8 @@ use Rattle.mssp.specs.declared.Which.{Which}
 use Rattle.mssp.specs.declared.Which.TheVariants.{Other, High, Low, HighToSend}
 use Rattle.mssp.specs.declared.Next.{Next}
 use Rattle.mssp.specs.declared.Next.TheVariants.{NextQuiet, NextLow, NextData}
+use Rattle.mssp.specs.declared.Kind.{Kind}
+use Rattle.mssp.specs.declared.Kind.TheVariants.{Quiet as KindQuiet, Address as KindAddress, Data as KindData, HeldBefore as KindHeldBefore, Slot as KindSlot, HeldForSending as KindHeldForSending, Sending as KindSending, MasterAcknowledge as KindMasterAcknowledge, HeldForAdd as KindHeldForAdd}
 use Rattle.mssp.specs.declared.Phase.{Phase}
 use Rattle.mssp.specs.declared.Phase.TheVariants.{Quiet, Address, Data, HeldBefore, Slot, HeldForSending, Sending, MasterAcknowledge, HeldForAdd}
 
@@ -19,6 +21,10 @@ abbrev pub slot_number : SlotCase → ℕ
 slot_number Pulls = 1
 slot_number Refuses = 2
 slot_number Declines = 3
+
+-- The case with a number; where there is none, the number.
+abbrev pub slot_of : ℕ → Result SlotCase ℕ
+slot_of n = if n == 1 then Ok Pulls else if n == 2 then Ok Refuses else if n == 3 then Ok Declines else Err n
 
 -- The slot of a byte that came in: pulling unless its intake was refused or ACKDT declines; where both are, it is refused.
 abbrev pub slot_after : Bool → Bool → SlotCase
@@ -32,11 +38,17 @@ which_number High = 1
 which_number Low = 2
 which_number HighToSend = 3
 
+abbrev pub which_of : ℕ → Result Which ℕ
+which_of n = if n == 0 then Ok Other else if n == 1 then Ok High else if n == 2 then Ok Low else if n == 3 then Ok HighToSend else Err n
+
 -- What follows when ADD is written in the hold for it, by number.
 abbrev pub next_number : Next → ℕ
 next_number NextQuiet = 0
 next_number NextLow = 1
 next_number NextData = 2
+
+abbrev pub next_of : ℕ → Result Next ℕ
+next_of n = if n == 0 then Ok NextQuiet else if n == 1 then Ok NextLow else if n == 2 then Ok NextData else Err n
 
 -- ---- the lists
 -- A phase's number, in the order in which the paper names them.
@@ -50,6 +62,14 @@ phase_number HeldForSending = 5
 phase_number (Sending byte place) = 6
 phase_number MasterAcknowledge = 7
 phase_number (HeldForAdd next) = 8
+
+-- The kind of phase with a number; where there is none, the number.
+abbrev pub kind_of : ℕ → Result Kind ℕ
+kind_of n =
+    if n == 0 then Ok KindQuiet else if n == 1 then Ok KindAddress else if n == 2 then Ok KindData
+    else if n == 3 then Ok KindHeldBefore else if n == 4 then Ok KindSlot else if n == 5 then Ok KindHeldForSending
+    else if n == 6 then Ok KindSending else if n == 7 then Ok KindMasterAcknowledge
+    else if n == 8 then Ok KindHeldForAdd else Err n
 
 -- Its bits so far; of a byte that is sent its place and the byte.
 abbrev pub bits_of : Phase → Bits

@@ -1,9 +1,9 @@
 -- Which states there are (01, "Calls, refusals and their order", "A state is any setting of .."; 02, 9), clause by clause.
 -- Bits that are always 0 (BOEN, CON2 4..1, flag 7..1) have no place in the state at all, and UA is read off the phase.
-use Rattle.std.specs.Prelude.{ℕ, ◌^◌, Bool, cond, ◌&&◌, ◌||◌, not, T, eqb, leb, ltb}
+use Rattle.std.specs.Prelude.{ℕ, ◌^◌, Bool, cond, ◌&&◌, ◌||◌, not, T, eqb, leb, ltb, Option}
 use Rattle.wire.specs.declared.Bits.{Bits}
 use Rattle.wire.specs.declared.Line.{Line}
-use Rattle.wire.specs.declared.Remembered.{Remembered}
+use Rattle.wire.specs.declared.Level.{Level}
 use Rattle.wire.specs.Wire.{scl_high}
 use Rattle.mssp.specs.declared.Config.{Config}
 use Rattle.mssp.specs.declared.Live.{Live}
@@ -52,11 +52,11 @@ abbrev pub off_fits : Bool → Phase → Bool → Bool
 off_fits sspen ph mark = sspen || is_quiet ph && not mark
 
 -- A mark goes with S 1, SCL remembered high and an address of no bits.
-abbrev pub mark_fits : Bool → Bool → Remembered → Phase → Bool
+abbrev pub mark_fits : Bool → Bool → Option Level → Phase → Bool
 mark_fits mark s seen ph = not mark || s && scl_high seen && address_begins ph
 
 -- Eight bits go with SCL remembered high.
-abbrev pub eight_fit : Phase → Remembered → Bool
+abbrev pub eight_fit : Phase → Option Level → Bool
 eight_fit ph seen = not (eight_bits ph) || scl_high seen
 
 -- A hold goes with CKP 0, but the one for ADD with either.

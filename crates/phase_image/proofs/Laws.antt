@@ -1,9 +1,9 @@
 -- Phase and remembered wire come back from their bytes.
-use Rattle.std.specs.Prelude.{ℕ, ◌≡◌, refl, true, false}
+use Rattle.std.specs.Prelude.{ℕ, ◌≡◌, refl, Bool, true, false, Option, Some, None}
 use Rattle.std.proofs.Common.{sym, ap, ap₂, ◌∙◌}
-use Rattle.wire.specs.declared.Remembered.{Remembered}
-use Rattle.wire.specs.declared.Remembered.TheVariants.{Nothing, Wire}
+use Rattle.wire.specs.declared.Level.{Level}
 use Rattle.wire.specs.Laws.{bool_back}
+use Rattle.wire.specs.Wire.{wire}
 use Rattle.mssp.specs.declared.SlotCase.{SlotCase}
 use Rattle.mssp.specs.declared.SlotCase.TheVariants.{Pulls, Refuses, Declines}
 use Rattle.mssp.specs.declared.Which.{Which}
@@ -48,9 +48,12 @@ phase_back (HeldForAdd next) = ap HeldForAdd (next_back next)
 pub by_number : (ph : Phase) {n : ℕ} → phase_number ph ≡ n → phase_from n (bits_of ph).count (bits_of ph).value (phase_mark ph) (phase_which ph) ≡ ph
 by_number ph e = ap (λ (n : ℕ). phase_from n (bits_of ph).count (bits_of ph).value (phase_mark ph) (phase_which ph)) (sym e) ∙ phase_back ph
 
-pub wire_back : (seen : Remembered) → wire_from (wire_byte seen) ≡ seen
-wire_back Nothing = refl
-wire_back (Wire true true) = refl
-wire_back (Wire true false) = refl
-wire_back (Wire false true) = refl
-wire_back (Wire false false) = refl
+level_back : (scl sda : Bool) → wire_from (wire_byte (Some (wire scl sda))) ≡ Some (wire scl sda)
+level_back true true = refl
+level_back true false = refl
+level_back false true = refl
+level_back false false = refl
+
+pub wire_back : (seen : Option Level) → wire_from (wire_byte seen) ≡ seen
+wire_back None = refl
+wire_back (Some level) = level_back level.scl level.sda

@@ -1,12 +1,11 @@
 -- Where a module stands, as seven bytes: the phase with its parts, the line, and which byte it is about; and the way back.
-use Rattle.std.specs.Prelude.{ℕ, ◌+◌, ◌*◌, Bool, cond, List, [], ◌∷◌, eqb}
+use Rattle.std.specs.Prelude.{ℕ, ◌+◌, ◌*◌, Bool, cond, List, [], ◌∷◌, eqb, Option, Some, None}
 use mir.Val.{bool_byte}
 use Rattle.codec.specs.Codec.{same_bytes}
 use Rattle.wire.specs.declared.Bits.{Bits}
 use Rattle.wire.specs.declared.Line.{Line}
-use Rattle.wire.specs.declared.Remembered.{Remembered}
-use Rattle.wire.specs.declared.Remembered.TheVariants.{Nothing, Wire}
-use Rattle.wire.specs.Wire.{scl_of, sda_of}
+use Rattle.wire.specs.declared.Level.{Level}
+use Rattle.wire.specs.Wire.{scl_of, sda_of, wire}
 use Rattle.mssp.specs.declared.SlotCase.{SlotCase}
 use Rattle.mssp.specs.declared.SlotCase.TheVariants.{Pulls, Refuses, Declines}
 use Rattle.mssp.specs.declared.Which.{Which}
@@ -45,12 +44,12 @@ phase_from number count byte mark which =
     (cond (eqb number 8) (HeldForAdd (next_from which)) Quiet)))))))
 
 -- ---- the remembered wire as a byte: 2 × SCL + SDA, and 255 for none
-abbrev pub wire_byte : Remembered → ℕ
-wire_byte Nothing = 255
-wire_byte (Wire scl sda) = bool_byte scl * 2 + bool_byte sda
+abbrev pub wire_byte : Option Level → ℕ
+wire_byte None = 255
+wire_byte (Some level) = bool_byte level.scl * 2 + bool_byte level.sda
 
-abbrev pub wire_from : ℕ → Remembered
-wire_from byte = cond (eqb byte 255) Nothing (Wire (scl_of byte) (sda_of byte))
+abbrev pub wire_from : ℕ → Option Level
+wire_from byte = cond (eqb byte 255) None (Some (wire (scl_of byte) (sda_of byte)))
 
 abbrev pub line_from : ℕ → ℕ → Line
 line_from byte mark = record { remembered = wire_from byte; mark = eqb mark 1 }

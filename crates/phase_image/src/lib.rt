@@ -4,81 +4,79 @@
 ghost use Rattle.std.specs.Prelude.{◌≡◌};
 ghost use Rattle.phase_image.specs.PhasePart.{slot_from, which_from, next_from, phase_from, wire_byte, wire_from, line_from, stand_part, is_stand};
 
-use mssp::{Next, Phase, SlotCase, Which};
-use wire::{Bits, Line, Remembered};
+use mssp::{Kind, Next, Phase, SlotCase, Which};
+use wire::{Bits, Level, Line};
 
+// Stays: three of one line, each named by a wrong program (must-fail/not_told_apart, parts_swapped).
 // The case of a slot that has the number. A number that no case has gives one with another, so that its image is refused.
 fn slot_from(number: u8) -> SlotCase
     ensures { result ≡ slot_from number }
 {
-    match number {
-        mssp::PULLS => SlotCase::Pulls,
-        mssp::REFUSES => SlotCase::Refuses,
-        _ => SlotCase::Declines,
-    }
+    SlotCase::try_from(number).unwrap_or(SlotCase::Declines)
 }
 
 // Which byte has the number, likewise.
 fn which_from(number: u8) -> Which
     ensures { result ≡ which_from number }
 {
-    match number {
-        mssp::HIGH => Which::High,
-        mssp::LOW => Which::Low,
-        mssp::HIGH_TO_SEND => Which::HighToSend,
-        _ => Which::Other,
-    }
+    Which::try_from(number).unwrap_or(Which::Other)
 }
 
 // What follows, likewise.
 fn next_from(number: u8) -> Next
     ensures { result ≡ next_from number }
 {
-    match number {
-        mssp::NEXT_LOW => Next::NextLow,
-        mssp::NEXT_DATA => Next::NextData,
-        _ => Next::NextQuiet,
-    }
+    Next::try_from(number).unwrap_or(Next::NextQuiet)
 }
 
 // The phase that has the number and these parts.
 pub fn phase_from(number: u8, count: u8, byte: u8, mark: u8, which: u8) -> Phase
     ensures { result ≡ phase_from number count byte mark which }
 {
-    let bits = Bits {
-        count: count,
-        value: byte,
-    };
-    match number {
-        mssp::ADDRESS => Phase::Address(bits, which == mssp::LOW),
-        mssp::DATA => Phase::Data(bits, mark == 1),
-        mssp::HELD_BEFORE => Phase::HeldBefore(mark == 1, which_from(which)),
-        mssp::SLOT => Phase::Slot(slot_from(mark), which_from(which)),
-        mssp::HELD_FOR_SENDING => Phase::HeldForSending,
-        mssp::SENDING => Phase::Sending(byte, count),
-        mssp::MASTER_ACKNOWLEDGE => Phase::MasterAcknowledge,
-        mssp::HELD_FOR_ADD => Phase::HeldForAdd(next_from(which)),
-        _ => Phase::Quiet,
+    let bits = Bits { count, value: byte };
+    match Kind::try_from(number) {
+        Ok(Kind::Quiet) | Err(_) => Phase::Quiet,
+        Ok(Kind::Address) => Phase::Address {
+            bits,
+            low: which == Which::Low as u8,
+        },
+        Ok(Kind::Data) => Phase::Data {
+            bits,
+            held: mark == 1,
+        },
+        Ok(Kind::HeldBefore) => Phase::HeldBefore {
+            refused: mark == 1,
+            which: which_from(which),
+        },
+        Ok(Kind::Slot) => Phase::Slot {
+            case: slot_from(mark),
+            which: which_from(which),
+        },
+        Ok(Kind::HeldForSending) => Phase::HeldForSending,
+        Ok(Kind::Sending) => Phase::Sending { byte, place: count },
+        Ok(Kind::MasterAcknowledge) => Phase::MasterAcknowledge,
+        Ok(Kind::HeldForAdd) => Phase::HeldForAdd(next_from(which)),
     }
 }
 
+// Stays: the C interface: 255 is the byte of the image and of the view for no level (docs/LAYOUT.md).
 // The remembered wire: 2 * SCL + SDA, or 255.
-pub fn wire_byte(remembered: Remembered) -> u8
+pub fn wire_byte(remembered: Option<Level>) -> u8
     ensures { result ≡ wire_byte remembered }
 {
     match remembered {
-        Remembered::Nothing => 255,
-        Remembered::Wire(scl, sda) => (scl as u8) * 2 + (sda as u8),
+        None => 255,
+        Some(level) => u8::from(level.scl) * 2 + u8::from(level.sda),
     }
 }
 
-fn wire_from(byte: u8) -> Remembered
+fn wire_from(byte: u8) -> Option<Level>
     ensures { result ≡ wire_from byte }
 {
     if byte == 255 {
-        Remembered::Nothing
+        None
     } else {
-        Remembered::Wire(byte / 2 % 2 == 1, byte / 1 % 2 == 1)
+        Some(Level::from(byte))
     }
 }
 
@@ -94,16 +92,15 @@ pub fn line_from(wire: u8, mark: u8) -> Line
 pub fn stand_part(phase: Phase, line: Line) -> [u8; 7]
     ensures { result ≡ stand_part phase line }
 {
-    let bits = mssp::bits_of(phase);
-    let remembered = line.remembered;
+    let bits = phase.bits_of();
     [
-        mssp::phase_number(phase),
+        phase.phase_number(),
         bits.count,
         bits.value,
-        mssp::phase_mark(phase),
-        wire_byte(remembered),
-        line.mark as u8,
-        mssp::phase_which(phase),
+        phase.phase_mark(),
+        wire_byte(line.remembered),
+        u8::from(line.mark),
+        phase.phase_which(),
     ]
 }
 
@@ -112,14 +109,13 @@ pub fn is_stand(number: u8, count: u8, byte: u8, mark: u8, wire: u8, marked: u8,
     ensures { result ≡ is_stand number count byte mark wire marked which }
 {
     let phase = phase_from(number, count, byte, mark, which);
-    let bits = mssp::bits_of(phase);
+    let bits = phase.bits_of();
     let line = line_from(wire, marked);
-    let remembered = line.remembered;
-    (mssp::phase_number(phase) == number)
+    (phase.phase_number() == number)
         & (bits.count == count)
         & (bits.value == byte)
-        & (mssp::phase_mark(phase) == mark)
-        & (wire_byte(remembered) == wire)
-        & (line.mark as u8 == marked)
-        & (mssp::phase_which(phase) == which)
+        & (phase.phase_mark() == mark)
+        & (wire_byte(line.remembered) == wire)
+        & (u8::from(line.mark) == marked)
+        & (phase.phase_which() == which)
 }

@@ -1,6 +1,6 @@
 -- The plain device (01, "Handler and plain device"): memory, pointer and turn, what it does with what it hears, and where
 -- it owes a low SDA.
-use Rattle.std.specs.Prelude.{ℕ, ◌/◌, ◌%◌, ◌^◌, pred, Bool, true, false, ◌&&◌, not, List, eqb}
+use Rattle.std.specs.Prelude.{ℕ, ◌/◌, ◌%◌, ◌^◌, pred, Bool, true, false, ◌&&◌, not, List, ◌==◌}
 use Rattle.wire.specs.declared.Bits.{Bits}
 use Rattle.wire.specs.Byte.{bit, zero_at}
 use Rattle.memory.specs.Memory.{Memory, memory_of, peeked, laid_out, put}
@@ -14,7 +14,7 @@ use Rattle.plain.specs.declared.Device.{Device}
 
 -- Bits 7 to 1 of a byte equal ADD's.
 abbrev pub same_bit : ℕ → ℕ → ℕ → Bool
-same_bit i add byte = eqb (byte / 2 ^ i % 2) (add / 2 ^ i % 2)
+same_bit i add byte = byte / 2 ^ i % 2 == add / 2 ^ i % 2
 
 abbrev pub own : ℕ → ℕ → Bool
 own add byte =
@@ -95,9 +95,6 @@ left_device d bytes = record { device = d; bytes = bytes }
 -- What code leaves of a device and of its memory's bytes.
 abbrev pub left_of : ℕ → Plain → LeftDevice
 left_of n p = left_device (device_of n p.memory.pointer p.turn) p.memory.bytes
-
-abbrev pub turned : Device → Turn → Device
-turned d turn = device_of d.n d.pointer turn
 
 abbrev pub laying_out : Device → List ℕ → Device
 laying_out d bytes = device_of d.n (laid_out d.n (device_memory d bytes)).pointer (Reading (peeked (device_memory d bytes)))

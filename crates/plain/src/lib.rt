@@ -1,23 +1,24 @@
-// The plain device, a memory with a pointer, fed with what the plain reader of the wire hears.
+//! The plain device, a memory with a pointer, fed with what the plain reader of the wire hears.
 #![tactic(auto)]
 
 ghost use Rattle.std.specs.Prelude.{◌≡◌, false};
 ghost use Rattle.wire.specs.Byte.{bit};
 ghost use Rattle.memory.specs.Memory.{put};
-ghost use Rattle.plain.specs.Device.{own, plain_of, first_byte, later_byte, hears, device_memory, device_is, left_device, left_of, turned, laying_out, place_of, owes_bit, owes_later, owes};
+ghost use Rattle.plain.specs.Device.{own, plain_of, first_byte, later_byte, hears, device_memory, device_is, left_device, left_of, laying_out, place_of, owes_bit, owes_later, owes};
 
 use reader::{Heard, Place};
 use wire::Bits;
 
-// What the device is in the middle of: nothing; a write, its pointer due or not; a read, with the byte laid out.
-#[derive(Clone, Copy)]
+/// What the device is in the middle of: nothing; a write, its pointer due or not; a read, with the byte laid out.
+#[derive(Clone, Copy, Debug, PartialEq, Eq)]
 pub enum Turn {
     Off,
     Writing(bool),
     Reading(u8),
 }
 
-#[derive(Clone, Copy)]
+/// The memory's length and pointer, and the turn. The memory's bytes are lent.
+#[derive(Clone, Copy, Debug, PartialEq, Eq)]
 pub struct Device {
     pub n: u16,
     pub pointer: u16,
@@ -28,166 +29,112 @@ pub struct Device {
 fn is_own(add: u8, byte: u8) -> bool
     ensures { result ≡ own add byte }
 {
-    (byte / 2 % 2 == add / 2 % 2)
-        & (byte / 4 % 2 == add / 4 % 2)
-        & (byte / 8 % 2 == add / 8 % 2)
-        & (byte / 16 % 2 == add / 16 % 2)
-        & (byte / 32 % 2 == add / 32 % 2)
-        & (byte / 64 % 2 == add / 64 % 2)
-        & (byte / 128 % 2 == add / 128 % 2)
-}
-
-// The byte at the pointer is laid out, the pointer goes one on.
-fn lay_out(d: Device, memory: &[u8]) -> Device
-    ensures { result ≡ laying_out d memory.now }
-{
-    let byte = memory::peek(memory, d.pointer);
-    Device {
-        n: d.n,
-        pointer: memory::pointer_on(d.n, d.pointer),
-        turn: Turn::Reading(byte),
-    }
-}
-
-fn with_turn(d: Device, turn: Turn) -> Device
-    ensures { result ≡ turned d turn }
-{
-    Device { turn: turn, ..d }
-}
-
-// The first byte after a Start.
-fn hear_first(d: Device, add: u8, byte: u8, memory: &[u8]) -> Device
-    ensures { left_device result memory.now
-        ≡ left_of d.n (first_byte d.n (own add byte) (bit 0 byte) (device_memory d memory.now)) }
-{
-    if is_own(add, byte) {
-        if byte / 1 % 2 == 1 {
-            lay_out(d, memory)
-        } else {
-            with_turn(d, Turn::Writing(true))
-        }
-    } else {
-        with_turn(d, Turn::Off)
-    }
-}
-
-// A byte of a write turn: the pointer where one is due, else stored.
-fn take_byte(d: Device, due: bool, byte: u8, memory: &mut [u8]) -> Device
-    ensures { left_device result memory.new
-        ≡ left_of d.n (plain_of (put d.n due byte (device_memory d memory.old)) (Turn.Writing false)) }
-{
-    let n = d.n;
-    let at = d.pointer;
-    if due {
-        Device {
-            n: n,
-            pointer: memory::aim(n, byte),
-            turn: Turn::Writing(false),
-        }
-    } else {
-        memory::store(memory, at, byte);
-        Device {
-            n: n,
-            pointer: memory::pointer_on(n, at),
-            turn: Turn::Writing(false),
-        }
-    }
-}
-
-// A later byte, with the level of its ninth clock.
-fn hear_later(d: Device, byte: u8, level: bool, memory: &mut [u8]) -> Device
-    ensures { left_device result memory.new
-        ≡ left_of d.n (later_byte d.n byte d.turn level (device_memory d memory.old)) }
-{
-    let turn = d.turn;
-    match turn {
-        Turn::Off => with_turn(d, Turn::Off),
-        Turn::Writing(due) => take_byte(d, due, byte, memory),
-        Turn::Reading(_) => {
-            if level {
-                with_turn(d, Turn::Off)
-            } else {
-                lay_out(d, memory)
-            }
-        }
-    }
-}
-
-// What the device does with what it hears.
-pub fn hear(d: Device, add: u8, heard: Heard, memory: &mut [u8]) -> Device
-    ensures { left_device result memory.new
-        ≡ left_of d.n (hears d.n add heard (device_is d memory.old)) }
-{
-    match heard {
-        Heard::Silence => d,
-        Heard::Started => with_turn(d, Turn::Off),
-        Heard::Stopped => with_turn(d, Turn::Off),
-        Heard::Byte(first, byte, level) => {
-            if first {
-                hear_first(d, add, byte, memory)
-            } else {
-                hear_later(d, byte, level, memory)
-            }
-        }
-    }
+    wire::fits(byte, add, 255)
 }
 
 // The place of the laid-out bit that is on the wire.
 fn bit_place(scl: bool, bits: Bits) -> u8
     ensures { result ≡ place_of scl bits }
 {
-    let count = bits.count;
     if scl {
-        if count == 0 { 0 } else { count - 1 }
+        bits.count.saturating_sub(1)
     } else {
-        count
+        bits.count
     }
 }
 
-// The 0 bits of a laid-out byte are owed once the hold has ended.
-fn owes_bit(held: bool, scl: bool, bits: Bits, turn: Turn) -> bool
-    ensures { result ≡ owes_bit held scl bits turn }
-{
-    match turn {
-        Turn::Off => false,
-        Turn::Writing(_) => false,
-        Turn::Reading(out) => {
-            let place = bit_place(scl, bits);
-            !held & wire::is_zero_at(out, place)
+impl Device {
+    // The byte at the pointer is laid out, the pointer goes one on.
+    fn lay_out(&mut self, memory: &[u8])
+        ensures { self.new ≡ laying_out self.old memory.now }
+    {
+        self.turn = Turn::Reading(memory::peek(memory, self.pointer));
+        self.pointer = memory::pointer_on(self.n, self.pointer);
+    }
+
+    // The first byte after a Start.
+    fn hear_first(&mut self, add: u8, byte: u8, memory: &[u8])
+        ensures { left_device self.new memory.now
+            ≡ left_of self.old.n (first_byte self.old.n (own add byte) (bit 0 byte) (device_memory self.old memory.now)) }
+    {
+        if !is_own(add, byte) {
+            self.turn = Turn::Off;
+        } else if byte % 2 == 1 {
+            self.lay_out(memory);
+        } else {
+            self.turn = Turn::Writing(true);
+        }
+    }
+
+    // Stays: beside the handler's own, since the two devices that are compared share their memory's words alone.
+    // A byte of a write turn: the pointer where one is due, else stored.
+    fn take_byte(&mut self, due: bool, byte: u8, memory: &mut [u8])
+        ensures { left_device self.new memory.new
+            ≡ left_of self.old.n (plain_of (put self.old.n due byte (device_memory self.old memory.old)) (Turn.Writing false)) }
+    {
+        if due {
+            self.pointer = memory::aim(self.n, byte);
+        } else {
+            memory::store(memory, self.pointer, byte);
+            self.pointer = memory::pointer_on(self.n, self.pointer);
+        }
+        self.turn = Turn::Writing(false);
+    }
+
+    // A later byte, with the level of its ninth clock: the master's 1 ends a read turn.
+    fn hear_later(&mut self, byte: u8, level: bool, memory: &mut [u8])
+        ensures { left_device self.new memory.new
+            ≡ left_of self.old.n (later_byte self.old.n byte self.old.turn level (device_memory self.old memory.old)) }
+    {
+        match self.turn {
+            Turn::Off => {}
+            Turn::Writing(due) => self.take_byte(due, byte, memory),
+            Turn::Reading(_) if level => self.turn = Turn::Off,
+            Turn::Reading(_) => self.lay_out(memory),
+        }
+    }
+
+    /// What the device does with what it hears.
+    pub fn hear(&mut self, add: u8, heard: Heard, memory: &mut [u8])
+        ensures { left_device self.new memory.new
+            ≡ left_of self.old.n (hears self.old.n add heard (device_is self.old memory.old)) }
+    {
+        match heard {
+            Heard::Silence => {}
+            Heard::Started | Heard::Stopped => self.turn = Turn::Off,
+            Heard::Byte(true, byte, _) => self.hear_first(add, byte, memory),
+            Heard::Byte(false, byte, level) => self.hear_later(byte, level, memory),
         }
     }
 }
 
-// The ninth slot of a later byte is owed in a write turn.
-fn owes_later(turn: Turn) -> bool
-    ensures { result ≡ owes_later turn }
-{
-    match turn {
-        Turn::Off => false,
-        Turn::Writing(_) => true,
-        Turn::Reading(_) => false,
-    }
-}
-
-// Whether the device owes a low SDA.
-pub fn owes_low(add: u8, held: bool, scl: bool, place: Place, turn: Turn) -> bool
-    ensures { result ≡ owes add held scl place turn }
-{
-    match place {
-        Place::Idle => false,
-        Place::Within(first, bits) => {
-            if first {
-                false
-            } else {
-                owes_bit(held, scl, bits, turn)
-            }
+impl Turn {
+    // The 0 bits of a laid-out byte are owed once the hold has ended.
+    fn owes_bit(self, held: bool, scl: bool, bits: Bits) -> bool
+        ensures { result ≡ owes_bit held scl bits self }
+    {
+        match self {
+            Turn::Reading(out) => !held & wire::is_zero_at(out, bit_place(scl, bits)),
+            _ => false,
         }
-        Place::Ending(first, byte, _) => {
-            if first {
-                is_own(add, byte)
-            } else {
-                owes_later(turn)
-            }
+    }
+
+    // The ninth slot of a later byte is owed in a write turn.
+    fn owes_later(self) -> bool
+        ensures { result ≡ owes_later self }
+    {
+        matches!(self, Turn::Writing(_))
+    }
+
+    /// Whether the device owes a low SDA.
+    pub fn owes_low(self, add: u8, held: bool, scl: bool, place: Place) -> bool
+        ensures { result ≡ owes add held scl place self }
+    {
+        match place {
+            Place::Within(false, bits) => self.owes_bit(held, scl, bits),
+            Place::Ending(true, byte, _) => is_own(add, byte),
+            Place::Ending(false, _, _) => self.owes_later(),
+            _ => false,
         }
     }
 }

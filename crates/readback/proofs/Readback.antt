@@ -1,16 +1,19 @@
 -- What a read gives after a write, for every state and all 256 values, and what each write leaves alone
 -- (01, "Register numbers").
 use Rattle.readback.specs.Readback.{ReadbackBuf, LeavesPlace, RefusedLeaves}
-use Rattle.std.specs.Prelude.{ℕ, ◌<◌, ◌≡◌, refl, Bool, true, false, ◌&&◌, not}
+use Rattle.std.specs.Prelude.{ℕ, ◌<◌, ◌≡◌, refl, Bool, true, false, ◌&&◌, not, Result, Ok, Err}
 use Rattle.std.proofs.Common.{sym, ◌∙◌}
 use mir.Val.{bool_byte}
 use Rattle.wire.specs.Byte.{bit}
+use Rattle.refusals.specs.declared.Refusal.{Refusal}
+use Rattle.refusals.specs.Numbers.{accepted}
 use Rattle.mssp.specs.declared.Module.{Module}
 use Rattle.mssp.specs.Phases.{is_held_for_add}
 use Rattle.registers.specs.declared.Register.{Register}
-use Rattle.registers.specs.declared.Register.TheVariants.{Buf, Stat, Con1, Con2, Con3, Add, Msk, Flag, Nowhere}
+use Rattle.registers.specs.declared.Register.TheVariants.{Buf, Stat, Con1, Con2, Con3, Add, Msk, Flag}
+use Rattle.registers.specs.Values.{register_of}
 use Rattle.register_bytes.specs.Bytes.{byte_of}
-use Rattle.writes.specs.Writes.{con1_stored, con1_then, written}
+use Rattle.writes.specs.Writes.{con1_stored, con1_then, written, write_at}
 use Rattle.register_bytes.proofs.Bits.{bits_back}
 use Rattle.readback.specs.Bits.{byte_back}
 use Rattle.readback.specs.Tables.{holds, takes, clears, bit_after, byte_after, ReadsBack, apart, values}
@@ -76,7 +79,6 @@ readback Con3 v m other h = con3_back v m
 readback Add v m other h = sym (byte_back v h)
 readback Msk v m other h = sym (byte_back v h)
 readback Flag v m other h = flag_back v m
-readback Nowhere v m other h = refl
 
 con1_leaves : (off ckp : Bool) (m : Module) → values (apart Con1) (con1_then off ckp m) ≡ values (apart Con1) m
 con1_leaves true ckp m = refl
@@ -93,7 +95,6 @@ leaves Con3 v m = refl
 leaves Add v m = refl
 leaves Msk v m = refl
 leaves Flag v m = refl
-leaves Nowhere v m = refl
 
 -- Only a write to CON1 moves the line, and only that or one to ADD the phase: ADD's ends the hold for it.
 pub leaves_place : LeavesPlace
@@ -105,8 +106,11 @@ leaves_place Con3 v m other = (refl, refl)
 leaves_place Add v m other = (refl, refl)
 leaves_place Msk v m other = (refl, refl)
 leaves_place Flag v m other = (refl, refl)
-leaves_place Nowhere v m other = (refl, refl)
 
 -- A refused write leaves the module as it was given.
 pub refused_leaves : RefusedLeaves
-refused_leaves number v m e = rw e
+refused_leaves number v m e = at (register_of number) e
+  where
+    at : (found : Result Register Refusal) → accepted (write_at found v m).verdict ≡ false → (write_at found v m).mssp ≡ m
+    at (Ok r) e = rw e
+    at (Err why) e = refl

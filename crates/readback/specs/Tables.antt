@@ -3,7 +3,7 @@ use Rattle.std.specs.Prelude.{ℕ, ◌≡◌, Bool, cond, ◌&&◌, List, [], �
 use Rattle.wire.specs.Byte.{bit}
 use Rattle.mssp.specs.declared.Module.{Module}
 use Rattle.registers.specs.declared.Register.{Register}
-use Rattle.registers.specs.declared.Register.TheVariants.{Buf, Stat, Con1, Con2, Con3, Add, Msk, Flag, Nowhere}
+use Rattle.registers.specs.declared.Register.TheVariants.{Buf, Stat, Con1, Con2, Con3, Add, Msk, Flag}
 use Rattle.registers.specs.Values.{value_of}
 use Rattle.writes.specs.Writes.{written}
 use Rattle.readback.specs.Bits.{each_bit}
@@ -22,7 +22,6 @@ takes Con3 = 0x6F
 takes Add = 0xFF
 takes Msk = 0xFF
 takes Flag = 0
-takes Nowhere = 0
 
 -- The bits that a write can only clear: WCOL, SSPOV and SSPIF.
 abbrev pub clears : Register → ℕ
@@ -34,7 +33,6 @@ clears Con3 = 0
 clears Add = 0
 clears Msk = 0
 clears Flag = 0x01
-clears Nowhere = 0
 
 -- A bit after a write: the new one where it is taken, both where it can only be cleared, else the old one.
 abbrev pub bit_after : Bool → Bool → Bool → Bool → Bool
@@ -58,7 +56,6 @@ apart Con3 = Buf ∷ Stat ∷ Con1 ∷ Con2 ∷ Add ∷ Msk ∷ Flag ∷ []
 apart Add = Buf ∷ Con1 ∷ Con2 ∷ Con3 ∷ Msk ∷ Flag ∷ []
 apart Msk = Buf ∷ Stat ∷ Con1 ∷ Con2 ∷ Con3 ∷ Add ∷ Flag ∷ []
 apart Flag = Buf ∷ Stat ∷ Con1 ∷ Con2 ∷ Con3 ∷ Add ∷ Msk ∷ []
-apart Nowhere = Buf ∷ Stat ∷ Con1 ∷ Con2 ∷ Con3 ∷ Add ∷ Msk ∷ Flag ∷ []
 
 abbrev pub values : List Register → Module → List ℕ
 values [] m = []

@@ -1,15 +1,13 @@
 -- The plain reader of the wire (01, "Handler and plain device"): it counts bytes from each Start, and reads none after a
 -- Stop or before the first Start.
-use Rattle.std.specs.Prelude.{ℕ, Bool, true, false}
+use Rattle.std.specs.Prelude.{ℕ, Bool, true, false, Option, Some, None}
 use Rattle.wire.specs.declared.Bits.{Bits}
 use Rattle.wire.specs.declared.Line.{Line}
-use Rattle.wire.specs.declared.Remembered.{Remembered}
+use Rattle.wire.specs.declared.Level.{Level}
 use Rattle.wire.specs.declared.Edge.{Edge}
 use Rattle.wire.specs.declared.Edge.TheVariants.{Still, Start, Stop, Rise, Fall}
 use Rattle.wire.specs.Byte.{none, pushed, whole}
 use Rattle.wire.specs.Wire.{edge_of, line_next, unseen}
-use Rattle.reader.specs.declared.Ninth.{Ninth}
-use Rattle.reader.specs.declared.Ninth.TheVariants.{Waiting, Got}
 use Rattle.reader.specs.declared.Place.{Place}
 use Rattle.reader.specs.declared.Place.TheVariants.{Idle, Within, Ending}
 use Rattle.reader.specs.declared.Heard.{Heard}
@@ -18,12 +16,12 @@ use Rattle.reader.specs.declared.Reader.{Reader}
 
 -- The eighth fall leads to the ninth clock, the ninth to the next byte; a fall before its rise ends nothing.
 abbrev pub within_fall : Bool → Bool → Bits → Place
-within_fall true first bits = Ending first bits.value Waiting
+within_fall true first bits = Ending first bits.value None
 within_fall false first bits = Within first bits
 
-abbrev pub ending_fall : Bool → ℕ → Ninth → Place
-ending_fall first byte Waiting = Ending first byte Waiting
-ending_fall first byte (Got level) = Within false none
+abbrev pub ending_fall : Bool → ℕ → Option Bool → Place
+ending_fall first byte None = Ending first byte None
+ending_fall first byte (Some level) = Within false none
 
 abbrev pub fall_place : Place → Place
 fall_place Idle = Idle
@@ -34,7 +32,7 @@ fall_place (Ending first byte ninth) = ending_fall first byte ninth
 abbrev pub rise_place : Place → Bool → Place
 rise_place Idle sda = Idle
 rise_place (Within first bits) sda = Within first (pushed bits sda)
-rise_place (Ending first byte ninth) sda = Ending first byte (Got sda)
+rise_place (Ending first byte ninth) sda = Ending first byte (Some sda)
 
 abbrev pub place_after : Place → Edge → Place
 place_after place Still = place
@@ -44,9 +42,9 @@ place_after place (Rise sda) = rise_place place sda
 place_after place Fall = fall_place place
 
 -- A byte is heard at its ninth fall, with the level of its ninth clock.
-abbrev pub ending_heard : Bool → ℕ → Ninth → Heard
-ending_heard first byte Waiting = Silence
-ending_heard first byte (Got level) = Byte first byte level
+abbrev pub ending_heard : Bool → ℕ → Option Bool → Heard
+ending_heard first byte None = Silence
+ending_heard first byte (Some level) = Byte first byte level
 
 abbrev pub fall_heard : Place → Heard
 fall_heard Idle = Silence
@@ -60,7 +58,7 @@ heard_at place Stop = Stopped
 heard_at place (Rise sda) = Silence
 heard_at place Fall = fall_heard place
 
-abbrev pub line : Remembered → Bool → Line
+abbrev pub line : Option Level → Bool → Line
 line seen mark = record { remembered = seen; mark = mark }
 
 abbrev pub reader_of : Line → Place → Reader

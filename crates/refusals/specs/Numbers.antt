@@ -1,10 +1,9 @@
 -- The numbers of the refusals (01, "Calls, refusals and their order", the table; 02, 6 and 9), which verdict accepts, and the
 -- first of several causes.
-use Rattle.std.specs.Prelude.{ℕ, Bool, true, false, cond, List, [], ◌∷◌}
+use Rattle.std.specs.Prelude.{ℕ, Bool, true, false, cond, Result, Ok, Err, List, [], ◌∷◌}
 use Rattle.refusals.specs.declared.Refusal.{Refusal}
 use Rattle.refusals.specs.declared.Refusal.TheVariants.{NoState, NoRegister, ReservedBit, NoMode, ModeChange, MaskedTenBits, NoWindow, NoItem, PastRecord}
-use Rattle.refusals.specs.declared.Verdict.{Verdict}
-use Rattle.refusals.specs.declared.Verdict.TheVariants.{Done, Refused}
+use Rattle.refusals.specs.declared.Refused.{Refused}
 
 -- In the order in which the causes are looked at: the bytes are no state's image; no register has that number; a write
 -- sets a master's bit or BOEN; a mode that is not modelled; another mode while the module runs; ten bits with a mask; the
@@ -20,11 +19,42 @@ number_of NoWindow = 5
 number_of NoItem = 4
 number_of PastRecord = 7
 
+-- What a call answers: a value, 0 where it has none, or why it was refused.
+abbrev pub Verdict : Type 0
+Verdict = Result ℕ Refusal
+
 abbrev pub accepted : Verdict → Bool
-accepted (Done v) = true
-accepted (Refused why) = false
+accepted (Ok value) = true
+accepted (Err why) = false
+
+-- A call that has no value answers 0.
+abbrev pub answered : Result Unit Refusal → Verdict
+answered (Ok done) = Ok 0
+answered (Err why) = Err why
+
+-- Why a call is refused, and 0 where no item is bad.
+abbrev pub refused_alone : Refusal → Refused
+refused_alone why = record { why = why; item = 0 }
+
+-- The verdict of a call that tells the first bad item, and that item's number, 0 where it is done.
+abbrev pub verdict_in : Result Unit Refused → Verdict
+verdict_in (Ok done) = Ok 0
+verdict_in (Err refused) = Err refused.why
+
+abbrev pub item_in : Result Unit Refused → ℕ
+item_in (Ok done) = 0
+item_in (Err refused) = refused.item
+
+-- The same of a call that may have a value.
+abbrev pub told_verdict : Result ℕ Refused → Verdict
+told_verdict (Ok value) = Ok value
+told_verdict (Err refused) = Err refused.why
+
+abbrev pub told_item : Result ℕ Refused → ℕ
+told_item (Ok value) = 0
+told_item (Err refused) = refused.item
 
 -- Causes in the order in which they are looked at: the first that holds refuses, and where none does the value is answered.
 abbrev pub first_cause : ℕ → List (Bool × Refusal) → Verdict
-first_cause value [] = Done value
-first_cause value (cause ∷ rest) = cond cause.0 (Refused cause.1) (first_cause value rest)
+first_cause value [] = Ok value
+first_cause value (cause ∷ rest) = cond cause.0 (Err cause.1) (first_cause value rest)

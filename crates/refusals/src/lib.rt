@@ -1,56 +1,42 @@
-// Why a call is refused, and what an accepted one answers: enums inside, the paper's numbers at the door.
+//! Why a call is refused: an enum inside, the paper's numbers at the door.
 #![tactic(auto)]
 
-ghost use Rattle.std.specs.Prelude.{◌≡◌, cond};
-ghost use Rattle.refusals.specs.Numbers.{number_of, accepted};
+ghost use Rattle.std.specs.Prelude.{◌≡◌};
+ghost use Rattle.refusals.specs.Numbers.{number_of, refused_alone};
 
-#[derive(Clone, Copy)]
+/// Why a call is refused; as a number, what C is told.
+#[derive(Clone, Copy, Debug, PartialEq, Eq)]
 pub enum Refusal {
-    NoState,
-    NoRegister,
-    ReservedBit,
-    NoMode,
-    ModeChange,
-    MaskedTenBits,
-    NoWindow,
-    NoItem,
-    PastRecord,
+    NoRegister = 1,
+    ReservedBit = 2,
+    NoMode = 3,
+    NoItem = 4,
+    NoWindow = 5,
+    NoState = 6,
+    PastRecord = 7,
+    ModeChange = 8,
+    MaskedTenBits = 9,
 }
 
-// What a call answers: a value (0 where it has none), or why it was refused.
-#[derive(Clone, Copy)]
-pub enum Verdict {
-    Done(u8),
-    Refused(Refusal),
-}
-
-pub fn number(why: Refusal) -> u8
-    ensures { result ≡ number_of why }
-{
-    match why {
-        Refusal::NoState => 6,
-        Refusal::NoRegister => 1,
-        Refusal::ReservedBit => 2,
-        Refusal::NoMode => 3,
-        Refusal::ModeChange => 8,
-        Refusal::MaskedTenBits => 9,
-        Refusal::NoWindow => 5,
-        Refusal::NoItem => 4,
-        Refusal::PastRecord => 7,
+impl Refusal {
+    pub fn number(self) -> u8
+        ensures { result ≡ number_of self }
+    {
+        self as u8
     }
 }
 
-pub fn is_accepted(verdict: Verdict) -> bool
-    ensures { result ≡ accepted verdict }
-{
-    match verdict {
-        Verdict::Done(_) => true,
-        Verdict::Refused(_) => false,
-    }
+/// A refusal, and beside it the number of the first bad item, or 0.
+#[derive(Clone, Copy, Debug, PartialEq, Eq)]
+pub struct Refused {
+    pub why: Refusal,
+    pub item: u64,
 }
 
-pub fn pick_verdict(first: bool, a: Verdict, b: Verdict) -> Verdict
-    ensures { result ≡ cond first a b }
-{
-    if first { a } else { b }
+impl From<Refusal> for Refused {
+    ghost from_gives = { λ why refused. refused ≡ refused_alone why };
+
+    fn from(why: Refusal) -> Self {
+        Refused { why, item: 0 }
+    }
 }

@@ -4,6 +4,7 @@ use mir.Val.{bool_byte}
 use Rattle.wire.specs.Byte.{bit}
 use Rattle.mssp.specs.declared.Config.{Config}
 use Rattle.mssp.specs.declared.Live.{Live}
+use Rattle.register_bytes.specs.declared.RegisterBytes.{RegisterBytes}
 
 -- Eight bits as a byte, bit 7 first.
 abbrev pub byte_of : Bool → Bool → Bool → Bool → Bool → Bool → Bool → Bool → ℕ
@@ -36,6 +37,10 @@ con3_bits acktim pcie scie sdaht sbcde ahen dhen = byte_of acktim pcie scie fals
 
 abbrev pub con3_of : Config → Live → ℕ
 con3_of c l = con3_bits l.acktim c.pcie c.scie c.sdaht c.sbcde c.ahen c.dhen
+
+-- The four together.
+abbrev pub bytes_of : Config → Live → Bool → RegisterBytes
+bytes_of c l ua = record { stat = stat_of c l ua; con1 = con1_of c l; con2 = con2_of c l; con3 = con3_of c l }
 
 -- ---- what of a byte a register holds: the bits that it has; UA is none of them
 abbrev pub stat_held : ℕ → ℕ

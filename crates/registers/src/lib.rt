@@ -1,13 +1,14 @@
-// The eight registers by number: what a read gives and changes, and when it is refused.
+//! The eight registers by number: what a read gives and changes, and when it is refused.
 #![tactic(auto)]
 
 ghost use Rattle.std.specs.Prelude.{◌≡◌};
-ghost use Rattle.registers.specs.Values.{register_of, held_by, read_verdict, after_read, read_of};
+ghost use Rattle.registers.specs.Values.{register_of, value_of, access_of, read_of};
 
-use mssp::{Config, Live, Module};
-use refusals::{Refusal, Verdict};
+use mssp::Module;
+use refusals::Refusal;
 
-#[derive(Clone, Copy)]
+/// The registers in the order of their numbers.
+#[derive(Clone, Copy, Debug, PartialEq, Eq)]
 pub enum Register {
     Buf,
     Stat,
@@ -17,102 +18,53 @@ pub enum Register {
     Add,
     Msk,
     Flag,
-    // no register has the number
-    Nowhere,
 }
 
-// What an access answers, and the module after it: after a refusal the one that was given.
-#[derive(Clone, Copy)]
-pub struct Access {
-    pub verdict: Verdict,
-    pub mssp: Module,
-}
+/// Numbers 0 to 7; no other number is a register's.
+impl TryFrom<u32> for Register {
+    type Error = Refusal;
 
-pub fn register_of(number: u32) -> Register
-    ensures { result ≡ register_of number }
-{
-    if number == 0 {
-        Register::Buf
-    } else if number == 1 {
-        Register::Stat
-    } else if number == 2 {
-        Register::Con1
-    } else if number == 3 {
-        Register::Con2
-    } else if number == 4 {
-        Register::Con3
-    } else if number == 5 {
-        Register::Add
-    } else if number == 6 {
-        Register::Msk
-    } else if number == 7 {
-        Register::Flag
-    } else {
-        Register::Nowhere
+    ghost try_from_gives = { λ number register. register ≡ register_of number };
+
+    fn try_from(number: u32) -> Result<Self, Refusal> {
+        match number {
+            0 => Ok(Register::Buf),
+            1 => Ok(Register::Stat),
+            2 => Ok(Register::Con1),
+            3 => Ok(Register::Con2),
+            4 => Ok(Register::Con3),
+            5 => Ok(Register::Add),
+            6 => Ok(Register::Msk),
+            7 => Ok(Register::Flag),
+            _ => Err(Refusal::NoRegister),
+        }
     }
 }
 
-// What a register holds, by whether UA stands; 0 where there is none.
-fn value(c: Config, l: Live, ua: bool, register: Register) -> u8
-    ensures { result ≡ held_by c l ua register }
+// What a register holds.
+fn value(m: &Module, register: Register) -> u8
+    ensures { result ≡ value_of m.now register }
 {
     match register {
-        Register::Buf => l.buf,
-        Register::Stat => register_bytes::stat(c, l, ua),
-        Register::Con1 => register_bytes::con1(c, l),
-        Register::Con2 => register_bytes::con2(c, l),
-        Register::Con3 => register_bytes::con3(c, l),
-        Register::Add => c.add,
-        Register::Msk => c.msk,
-        Register::Flag => l.sspif as u8,
-        Register::Nowhere => 0,
+        Register::Buf => m.live.buf,
+        Register::Stat => { register_bytes::stat(m.config, m.live, m.phase.is_held_for_add()) }
+        Register::Con1 => register_bytes::con1(m.config, m.live),
+        Register::Con2 => register_bytes::con2(m.config, m.live),
+        Register::Con3 => register_bytes::con3(m.config, m.live),
+        Register::Add => m.config.add,
+        Register::Msk => m.config.msk,
+        Register::Flag => u8::from(m.live.sspif),
     }
 }
 
-// What a read answers.
-fn read_verdict(register: Register, held: u8) -> Verdict
-    ensures { result ≡ read_verdict register held }
+/// Reads a register; a read of BUF clears BF. Refuses with 1, and then nothing changes.
+pub fn read(m: &mut Module, number: u32) -> Result<u8, Refusal>
+    ensures { access_of result m.new ≡ read_of m.old number }
 {
-    match register {
-        Register::Buf => Verdict::Done(held),
-        Register::Stat => Verdict::Done(held),
-        Register::Con1 => Verdict::Done(held),
-        Register::Con2 => Verdict::Done(held),
-        Register::Con3 => Verdict::Done(held),
-        Register::Add => Verdict::Done(held),
-        Register::Msk => Verdict::Done(held),
-        Register::Flag => Verdict::Done(held),
-        Register::Nowhere => Verdict::Refused(Refusal::NoRegister),
+    let register = Register::try_from(number)?;
+    let held = value(m, register);
+    if register == Register::Buf {
+        effects::empty(m);
     }
-}
-
-// What a read leaves: only BUF's changes anything.
-fn after_read(m: Module, register: Register) -> Module
-    ensures { result ≡ after_read register m }
-{
-    match register {
-        Register::Buf => effects::empty(m),
-        Register::Stat => m,
-        Register::Con1 => m,
-        Register::Con2 => m,
-        Register::Con3 => m,
-        Register::Add => m,
-        Register::Msk => m,
-        Register::Flag => m,
-        Register::Nowhere => m,
-    }
-}
-
-pub fn read(m: Module, number: u32) -> Access
-    ensures { result ≡ read_of m number }
-{
-    let register = register_of(number);
-    let phase = m.phase;
-    let ua = mssp::is_held_for_add(phase);
-    let held = value(m.config, m.live, ua, register);
-    let next = after_read(m, register);
-    Access {
-        verdict: read_verdict(register, held),
-        mssp: next,
-    }
+    Ok(held)
 }

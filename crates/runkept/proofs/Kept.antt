@@ -1,5 +1,5 @@
 -- A state stays a state, the module and the handler: after set-up, and after every handler call, item and run.
-use Rattle.std.specs.Prelude.{ℕ, ◌+◌, ◌<◌, ◌≡◌, refl, Bool, true, false, cond, List, [], ◌∷◌, map, T, ltb, length, take}
+use Rattle.std.specs.Prelude.{ℕ, ◌+◌, ◌<◌, ◌≡◌, refl, Bool, true, false, cond, List, [], ◌∷◌, map, T, ltb, length, take, Err, Ok}
 use Rattle.std.proofs.Common.{sym, subst, arith}
 use Rattle.truth.specs.Tests.{by_choice}
 use Rattle.refusals.specs.declared.Refusal.TheVariants.{NoWindow}
@@ -12,7 +12,6 @@ use Rattle.kept.proofs.Kept.{setup-valid, sample_kept, read_kept, write_kept, re
 use Rattle.memory.specs.Memory.{Memory, peeked, put}
 use Rattle.memory.proofs.Laws.{modulo-below}
 use Rattle.firmware.specs.declared.State.{State}
-use Rattle.firmware.specs.declared.Made.TheVariants.{Ready, NotMade}
 use Rattle.firmware.specs.Handler.{Served, served, handler_of, state_of, is_window_length, setup_of, memory_in, acknowledged, serve, called_if, called}
 use Rattle.firmware.specs.Window.{window_fits, window_of}
 use Rattle.firmware.proofs.Laws.{length_within}
@@ -77,7 +76,7 @@ module _ (bytes : List ℕ) where
 -- ---- set-up, a call, an item, a run
 made_if :
     (good : Bool) (add n : ℕ) {s : State} → is_window_length n ≡ good
-    → cond good (Ready (state_of (setup add) (handler_of n 0 false))) (NotMade NoWindow) ≡ Ready s → ValidState s
+    → cond good (Ok (state_of (setup add) (handler_of n 0 false))) (Err NoWindow) ≡ Ok s → ValidState s
 made_if false add n e g = let z : ◌≡◌ {A = ℕ} 0 1 = cc in absurd (omega arith)
 made_if true add n {s} e g =
     let is : state_of (setup add) (handler_of n 0 false) ≡ s = cc in
@@ -85,7 +84,7 @@ made_if true add n {s} e g =
     rw (← is) (record { mssp = setup-valid add; handler = record { some = range.0; most = range.1; inside = range.0 } })
 
 -- What set-up makes, whenever it makes one.
-pub setup_kept : (add n : ℕ) {s : State} → setup_of add n ≡ Ready s → ValidState s
+pub setup_kept : (add n : ℕ) {s : State} → setup_of add n ≡ Ok s → ValidState s
 setup_kept add n g = made_if (is_window_length n) add n refl g
 
 pub called_kept : (s : State) (bytes : List ℕ) → ValidState s → ValidState (called s bytes).state

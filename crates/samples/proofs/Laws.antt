@@ -1,13 +1,12 @@
 -- A stretch is a part of the samples: every item of it is a sample that the rules leave the module with where the stretch does.
-use Rattle.std.specs.Prelude.{ℕ, zero, suc, ◌+◌, ◌-◌, ◌<◌, ◌≤◌, ◌≡◌, refl, Bool, true, false, List, [], ◌∷◌, leb, ltb, length, drop, get_or}
+use Rattle.std.specs.Prelude.{ℕ, zero, suc, ◌+◌, ◌-◌, ◌<◌, ◌≤◌, ◌≡◌, refl, Bool, true, false, List, [], ◌∷◌, leb, ltb, length, drop, get_or, Option, Some, None}
 use Rattle.std.proofs.Math.Path.{sym, ap, subst}
 use Rattle.std.proofs.Common.{ap₂, ◌∙◌, add-zero, eqb-true, ltb-true, ltb-false, leb-true, leb-false, lt-ltb, le-ltb}
 use Rattle.std.proofs.Math.Bool.{cond}
 use native.Mathlib.Omega.{arith}
 use Rattle.truth.specs.Tests.{never, by_test, and_first, and_second}
 use Rattle.wire.specs.declared.Bits.{Bits}
-use Rattle.wire.specs.declared.Remembered.{Remembered}
-use Rattle.wire.specs.declared.Remembered.TheVariants.{Nothing, Wire}
+use Rattle.wire.specs.declared.Level.{Level}
 use Rattle.mssp.specs.declared.Config.{Config}
 use Rattle.mssp.specs.declared.Live.{Live}
 use Rattle.mssp.specs.declared.Phase.{Phase}
@@ -19,10 +18,12 @@ use Rattle.mssp.specs.Phases.{phase_number, bits_of, is_sending}
 use Rattle.phase_image.proofs.Laws.{by_number}
 use Rattle.mssp.specs.Drivers.{scl_pulled, sda_pulled}
 use Rattle.stretch.specs.declared.Seen.{Seen}
+use Rattle.stretch.specs.declared.Taken.{Taken}
+use Rattle.stretch.specs.declared.Sent.{Sent}
 use Rattle.stretch.specs.declared.Stretch.{Stretch}
 use Rattle.stretch.specs.Walk.{walked, steps}
 use Rattle.stretch.specs.Walking.{Onward, walk_onward, Walking, walk_on, walk_by, walk_stops, walk_out}
-use Rattle.stretch.specs.Stretch.{takes_bits, with_bits, rise_rule, fall_rule, stretch_by, taking_stops, taking_goes, sending_stops, sending_goes, resting_stops, resting_goes, stretch_from, stand_stretch, stretch_of}
+use Rattle.stretch.specs.Stretch.{takes_bits, with_bits, rise_rule, fall_rule, stretch_by, taken_with, taking_stops, taking_goes, sent_with, sending_stops, sending_goes, resting_stops, resting_goes, stretch_from, stand_stretch, stretch_of}
 use Rattle.stretch.proofs.Theorems.{stretch_within}
 use Rattle.stretch.proofs.Sampled.{module_seen, Sampled, bits_go, sending_goes_lem, rest_goes}
 use Rattle.samples.proofs.Loop.{lent_from, lent_is}
@@ -42,6 +43,16 @@ own_bits (HeldForAdd next) = refl
 
 own-byte : (ph : Phase) → is_sending ph ≡ true → Sending (bits_of ph).value (bits_of ph).count ≡ ph
 own-byte ph s = by_number ph (eqb-true (phase_number ph) 6 s)
+
+-- The byte that is sent stays the same.
+byte_if : (t : Bool) (p q : Sent) → q.byte ≡ p.byte → (cond t p q).byte ≡ p.byte
+byte_if true p q e = refl
+byte_if false p q e = e
+
+byte_stays : (p : Sent) (items : List ℕ) → (walked sending_stops sending_goes p items).byte ≡ p.byte
+unfolding walked
+byte_stays p [] = refl
+byte_stays p (x ∷ xs) = byte_if (sending_stops p x) p (walked sending_stops sending_goes (sending_goes p x) xs) (byte_stays (sending_goes p x) xs)
 
 -- ---- a stretch is a walk, and what holds along each walk of samples holds along the stretch ahead
 -- It holds from a module over none of the items, and along each walk whose items are samples that leave what the walk does.
@@ -63,27 +74,29 @@ module _ (Along : Module → List ℕ → Module → ℕ → Type 0) (nowhere : 
         → AlongPhase ph w items (stretch_by takes sends ph l.acktim w items)
     along_by true sends ph w items t s =
         subst (λ (x : Phase). AlongPhase x w items (stretch_by true sends ph l.acktim w items)) (own_bits ph)
-        (walks (Bits × Seen) taking_stops taking_goes c enabled l (λ (p : Bits × Seen). with_bits ph p.0) (λ (p : Bits × Seen). p.1) (λ p item e. bits_go c enabled l ph t p item e) (bits_of ph, w) items)
+        (walks Taken taking_stops taking_goes c enabled l (λ (p : Taken). with_bits ph p.bits) (λ (p : Taken). p.wire) (λ p item e. bits_go c enabled l ph t p item e) (taken_with (bits_of ph) w) items)
     along_by false true ph w items t s =
-        let byte : ℕ = (bits_of ph).value in
+        let from : Sent = sent_with (bits_of ph).value (bits_of ph).count w in let end : Sent = walked sending_stops sending_goes from items in
         subst (λ (x : Phase). AlongPhase x w items (stretch_by false true ph l.acktim w items)) (own-byte ph s)
-        (walks (ℕ × Seen) (sending_stops byte) (sending_goes byte) c enabled l (λ (p : ℕ × Seen). Sending byte p.0) (λ (p : ℕ × Seen). p.1) (λ p item e. sending_goes_lem c enabled l byte p item e) ((bits_of ph).count, w) items)
+        (subst (λ (byte : ℕ). Along (module_seen c l (Sending (bits_of ph).value (bits_of ph).count) w) items (module_seen c l (Sending byte end.place) end.wire) (steps sending_stops sending_goes from items))
+        (byte_stays from items)
+        (walks Sent sending_stops sending_goes c enabled l (λ (p : Sent). Sending p.byte p.place) (λ (p : Sent). p.wire) (λ p item e. sending_goes_lem c enabled l p item e) from items))
     along_by false false ph w items t s =
         walks Seen (resting_stops (scl_pulled ph) (sda_pulled ph) (rise_rule ph l.acktim) (fall_rule ph)) (resting_goes (scl_pulled ph) (sda_pulled ph))
         c enabled l (λ (x : Seen). ph) (λ (x : Seen). x) (λ x item e. rest_goes c enabled l ph t s x item e) w items
 
   module _ (m : Module) (items : List ℕ) where
-    abbrev from : Remembered → Module
+    abbrev from : Option Level → Module
     from rem = module_of m.config m.live m.phase (record { remembered = rem; mark = m.line.mark })
 
     along_from :
-        (on : Bool) → m.config.sspen ≡ on → (rem : Remembered)
+        (on : Bool) → m.config.sspen ≡ on → (rem : Option Level)
         → let r : Stretch = stretch_from on rem m.line.mark m.phase m.live.acktim items in
         0 < r.length → Along (from rem) items (moved_on m r) r.length
-    along_from on e Nothing h = absurd (omega arith)
-    along_from false e (Wire scl sda) h = absurd (omega arith)
-    along_from true e (Wire scl sda) h =
-        along_by m.config e m.live (takes_bits m.phase) (is_sending m.phase) m.phase (record { scl = scl; sda = sda; mark = m.line.mark }) items refl refl
+    along_from on e None h = absurd (omega arith)
+    along_from false e (Some level) h = absurd (omega arith)
+    along_from true e (Some level) h =
+        along_by m.config e m.live (takes_bits m.phase) (is_sending m.phase) m.phase (record { scl = level.scl; sda = level.sda; mark = m.line.mark }) items refl refl
 
     pub ahead_along : let r : Stretch = stretch_of m items in 0 < r.length → Along m items (moved_on m r) r.length
     ahead_along = along_from m.config.sspen refl m.line.remembered

@@ -7,8 +7,7 @@ use mathlib.Core.List.{List, [], ◌∷◌}
 use Rattle.mssp.specs.declared.Module.{Module}
 use Rattle.stretch.specs.Walk.{walked, steps}
 use Rattle.stretch.specs.Walking.{steps_within, walk_ends}
-use Rattle.samples.specs.declared.Fed.{Fed}
-use Rattle.samples.specs.Samples.{no_sample, sampled_at, fed_of}
+use Rattle.samples.specs.Samples.{Fed, no_sample, sampled_at, fed_of}
 
 -- The items from i on, as a loop lends them.
 abbrev pub lent_from : ℕ → List ℕ → List ℕ

@@ -8,7 +8,6 @@ use Rattle.sampling.specs.Rules.{sampled}
 use Rattle.stretch.specs.declared.Stretch.{Stretch}
 use Rattle.stretch.specs.Seen.{line_of}
 use Rattle.stretch.specs.Walk.{walked, steps}
-use Rattle.samples.specs.declared.Fed.{Fed}
 
 -- An item above 3 is no sample.
 abbrev pub no_sample : Module → ℕ → Bool
@@ -25,6 +24,10 @@ abbrev pub moved_on : Module → Stretch → Module
 moved_on m ahead = module_of m.config m.live ahead.phase (line_of ahead.wire)
 
 -- The module after the last sample, and how many samples there are.
+pub record Fed : Type 0 where
+  pub mssp : Module
+  pub length : ℕ
+
 abbrev pub fed_by : Module → ℕ → Fed
 fed_by m n = record { mssp = m; length = n }
 

@@ -1,41 +1,28 @@
-// Samples one after the other, over the module alone: a stretch, then the sample that a rule has to see. A handler adds to it
-// what it does between samples.
+//! Samples one after the other, over the module alone: a stretch, then the sample that a rule has to see. A handler adds to it
+//! what it does between samples.
 #![tactic(auto)]
 
 ghost use Rattle.std.specs.Prelude.{◌≡◌};
-ghost use Rattle.samples.specs.Samples.{moved_on, passed_over, sample_at, fed_of};
+ghost use Rattle.samples.specs.Samples.{moved_on, passed_over, sample_at, fed_by, fed_of};
 
 use mssp::Module;
 use stretch::Stretch;
+use wire::Level;
 
-// The module after the samples, and how many they were.
-#[derive(Clone, Copy)]
-pub struct Fed {
-    pub mssp: Module,
-    pub length: usize,
-}
-
-// The module after a stretch.
-fn move_on(m: Module, ahead: Stretch) -> Module
-    ensures { result ≡ moved_on m ahead }
+// On to where a stretch leaves the module.
+fn move_on(m: &mut Module, ahead: Stretch)
+    ensures { m.new ≡ moved_on m.old ahead }
 {
-    let phase = ahead.phase;
-    let w = ahead.wire;
-    Module {
-        phase: phase,
-        line: stretch::line_of(w),
-        ..m
-    }
+    m.phase = ahead.phase;
+    m.line = stretch::line_of(ahead.wire);
 }
 
-// Past a stretch, where there is one.
-pub fn pass_over(m: Module, ahead: Stretch) -> Module
-    ensures { result ≡ passed_over m ahead }
+/// Past a stretch, where there is one.
+pub fn pass_over(m: &mut Module, ahead: Stretch)
+    ensures { m.new ≡ passed_over m.old ahead }
 {
     if ahead.length > 0 {
-        move_on(m, ahead)
-    } else {
-        m
+        move_on(m, ahead);
     }
 }
 
@@ -43,28 +30,23 @@ pub fn pass_over(m: Module, ahead: Stretch) -> Module
 fn is_sample_at(items: &[u8], i: usize) -> bool
     ensures { result ≡ sample_at items.now i }
 {
-    if i < items.len() {
-        items[i] <= 3
-    } else {
-        false
-    }
+    i < items.len() && items[i] <= 3
 }
 
-// All the samples up to the first item that is none.
-pub fn feed(m: Module, items: &[u8]) -> Fed
-    ensures { result ≡ fed_of m items.now }
+/// Feeds all the samples up to the first item that is none, and tells how many they are.
+pub fn feed(m: &mut Module, items: &[u8]) -> usize
+    ensures { fed_by m.new result ≡ fed_of m.old items.now }
 {
-    let mut n = m;
     let mut i = 0;
+    // Stays: no plainer, since the number of samples is the answer, and the law of the loop (stretch_walked) goes by it.
     while is_sample_at(items, i) {
-        let ahead = stretch::ahead(stretch::stand_of(n), &items[i..]);
-        n = pass_over(n, ahead);
+        let ahead = stretch::ahead(stretch::stand_of(*m), &items[i..]);
+        pass_over(m, ahead);
         i += ahead.length;
         if is_sample_at(items, i) {
-            let item = items[i];
-            n = sampling::sample(n, item / 2 % 2 == 1, item / 1 % 2 == 1);
+            sampling::sample(m, Level::from(items[i]));
             i += 1;
         }
     }
-    Fed { mssp: n, length: i }
+    i
 }

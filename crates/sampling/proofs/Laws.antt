@@ -1,12 +1,11 @@
 -- The short way leaves the module as it is.
-use Rattle.std.specs.Prelude.{ℕ, ◌≡◌, refl, Bool, true, false, ◌&&◌}
+use Rattle.std.specs.Prelude.{ℕ, ◌≡◌, refl, Bool, true, false, ◌&&◌, Option, Some}
 use Rattle.std.proofs.Common.{ap, ap₂, subst, sym, ◌∙◌}
 use Rattle.std.specs.Bool.{beq}
 use Rattle.truth.specs.Tests.{never, and_first, and_second}
 use Rattle.wire.specs.declared.Line.{Line}
-use Rattle.wire.specs.declared.Remembered.{Remembered}
-use Rattle.wire.specs.declared.Remembered.TheVariants.{Wire}
-use Rattle.wire.specs.Wire.{scl_of, sda_of, on_wire}
+use Rattle.wire.specs.declared.Level.{Level}
+use Rattle.wire.specs.Wire.{scl_of, sda_of, on_wire, wire}
 use Rattle.wire.specs.Laws.{level_again}
 use Rattle.mssp.specs.declared.Module.{Module}
 use Rattle.mssp.specs.Module.{module_of}
@@ -22,7 +21,7 @@ equal false false e = refl
 
 -- A line of a wire that was seen.
 abbrev line_at : Bool → Bool → Bool → Line
-line_at scl sda mark = record { remembered = Wire scl sda; mark = mark }
+line_at scl sda mark = record { remembered = Some (wire scl sda); mark = mark }
 
 -- The level that is remembered is seen once more.
 module _ (m : Module) (scl sda mark : Bool) (stands : scl && mark ≡ mark) where
@@ -41,13 +40,13 @@ module _ (m : Module) (scl sda mark : Bool) (stands : scl && mark ≡ mark) wher
       ap₂ (λ (a b : Bool). seen_if m.config.sspen here a b) (equal _ scl (and_first scls sdas same)) (equal _ sda (and_second scls sdas same))
       ∙ seen_alike m.config.sspen
 
-abbrev seen_before : Module → Remembered → Module
+abbrev seen_before : Module → Option Level → Module
 seen_before m rem = module_of m.config m.live m.phase (record { remembered = rem; mark = m.line.mark })
 
 -- The law of the short way, for a mark that stands with SCL high alone.
 pub sampled_still :
-    (m : Module) {scl sda : Bool} (level : ℕ) → m.line.remembered ≡ Wire scl sda → scl && m.line.mark ≡ m.line.mark
+    (m : Module) {scl sda : Bool} (level : ℕ) → m.line.remembered ≡ Some (wire scl sda) → scl && m.line.mark ≡ m.line.mark
     → is_still m.phase scl sda level ≡ true → sampled m (scl_of level) (sda_of level) ≡ m
 sampled_still m {scl} {sda} level e stands same =
-    subst (λ (rem : Remembered). sampled (seen_before m rem) (scl_of level) (sda_of level) ≡ seen_before m rem) (sym e)
+    subst (λ (rem : Option Level). sampled (seen_before m rem) (scl_of level) (sda_of level) ≡ seen_before m rem) (sym e)
     (sampled_here m scl sda m.line.mark stands level same)

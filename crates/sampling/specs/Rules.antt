@@ -21,7 +21,15 @@ use Rattle.mssp.specs.declared.Module.{Module}
 use Rattle.mssp.specs.Module.{module_of, is_ten_bit, interrupting, set_s, set_p, set_da, set_rw, set_bf, set_sspov, set_ckp, set_ackstat, set_acktim, set_sspif, set_full, set_buf}
 use Rattle.mssp.specs.Phases.{slot_after, is_sending}
 use Rattle.mssp.specs.Drivers.{scl_pulled, sda_pulled}
-use Rattle.sampling.specs.declared.Moved.{Moved}
+
+-- What an edge leaves: the live bits and the phase.
+pub record Moved : Type 0 where
+  pub live : Live
+  pub phase : Phase
+
+-- The rest of the module stays.
+abbrev pub moved_to : Module → Moved → Module
+moved_to m x = module_of m.config x.live x.phase m.line
 
 infixl 20 ◌at◌
 abbrev pub ◌at◌ : Live → Phase → Moved

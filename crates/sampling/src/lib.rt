@@ -1,330 +1,288 @@
-// From levels to bytes: one function for each rule of the bus, and the sample that runs them.
+//! From levels to bytes: one function for each rule of the bus, and the sample that runs them.
 #![tactic(auto)]
 
-ghost use Rattle.std.specs.Prelude.{◌≡◌, true};
+ghost use Rattle.std.specs.Prelude.{◌≡◌, true, false};
+ghost use Rattle.wire.specs.Byte.{none};
+ghost use Rattle.mssp.specs.declared.Phase.TheVariants.{Quiet, Address};
 ghost use Rattle.mssp.specs.Module.{is_ten_bit};
-ghost use Rattle.sampling.specs.Rules.{started, stopped, intake, address_if, high_if, first_if, low_if, address_byte, address_fall, data_byte, data_fall, followed, awaits_add, pull_ended, fail_ended, slot_ended, bit_sent, answered, fallen, data_risen, risen, edge_step, seen, sampled};
+ghost use Rattle.mssp.specs.Phases.{is_sending};
+ghost use Rattle.sampling.specs.Rules.{◌at◌, moved_to, started, stopped, intake, address_if, high_if, first_if, low_if, address_byte, address_fall, data_byte, data_fall, followed, awaits_add, pull_ended, fail_ended, slot_ended, bit_sent, answered, fallen, data_risen, risen, edge_step, seen, sampled};
 ghost use Rattle.sampling.specs.Still.{is_still};
 
-use mssp::{Config, Live, Module, Next, Phase, SlotCase, Which};
-use wire::{Bits, Edge};
+use mssp::{Module, Next, Phase, SlotCase, Which};
+use wire::{Bits, Edge, Level};
 
-// What an edge leaves: the live bits and the phase.
-#[derive(Clone, Copy)]
-pub struct Moved {
-    pub live: Live,
-    pub phase: Phase,
-}
+// Stays: the rules are functions, not methods, since an impl of mssp's Module is refused in another crate.
 
 // Start. SSPIF as SCIE or the mode asks; a byte that was being sent is dropped.
-fn start(c: Config, l: Live, sending: bool) -> Live
-    ensures { result ≡ started c l sending }
+fn start(m: &mut Module)
+    ensures { m.new ≡ moved_to m.old (started m.old.config m.old.live (is_sending m.old.phase) at Address none false) }
 {
-    let mut n = l;
-    n.s = true;
-    n.p = false;
-    n.da = false;
-    n.rw = false;
-    n.acktim = false;
-    n.bf = l.bf & !sending;
-    n.sspif = l.sspif | c.scie | mssp::interrupts(c);
-    n
+    m.live.s = true;
+    m.live.p = false;
+    m.live.da = false;
+    m.live.rw = false;
+    m.live.acktim = false;
+    m.live.bf &= !m.phase.is_sending();
+    m.live.sspif |= m.config.scie | m.config.interrupts();
+    m.phase = Phase::Address {
+        bits: Bits::no_bits(),
+        low: false,
+    };
 }
 
 // Stop. SSPIF as PCIE or the mode asks; a byte that was being sent is dropped, and the full match ends.
-fn stop(c: Config, l: Live, sending: bool) -> Live
-    ensures { result ≡ stopped c l sending }
+fn stop(m: &mut Module)
+    ensures { m.new ≡ moved_to m.old (stopped m.old.config m.old.live (is_sending m.old.phase) at Quiet) }
 {
-    let mut n = l;
-    n.s = false;
-    n.p = true;
-    n.rw = false;
-    n.acktim = false;
-    n.full = false;
-    n.bf = l.bf & !sending;
-    n.sspif = l.sspif | c.pcie | mssp::interrupts(c);
-    n
+    m.live.s = false;
+    m.live.p = true;
+    m.live.rw = false;
+    m.live.acktim = false;
+    m.live.full = false;
+    m.live.bf &= !m.phase.is_sending();
+    m.live.sspif |= m.config.pcie | m.config.interrupts();
+    m.phase = Phase::Quiet;
 }
 
 // Intake of a byte, held before its acknowledge or not. Which byte it is, is handed on.
-fn take_in(c: Config, l: Live, byte: u8, hold: bool, which: Which) -> Moved
-    ensures { result ≡ intake c l byte hold which }
+fn take_in(m: &mut Module, byte: u8, hold: bool, which: Which)
+    ensures { m.new ≡ moved_to m.old (intake m.old.config m.old.live byte hold which) }
 {
-    let refused = l.bf | l.sspov;
-    let mut n = l;
-    n.buf = mssp::pick_byte(l.bf, l.buf, byte);
-    n.bf = true;
-    n.sspov = refused;
-    n.acktim = l.acktim | (c.ahen | c.dhen);
-    n.sspif = hold | l.sspif;
-    n.ckp = l.ckp & !hold;
-    let slot = mssp::slot_after(refused, false);
-    let held = Phase::HeldBefore(refused, which);
-    let next = mssp::pick_phase(hold, held, Phase::Slot(slot, which));
-    Moved {
-        live: n,
-        phase: next,
+    let refused = m.live.bf | m.live.sspov;
+    if !m.live.bf {
+        m.live.buf = byte;
     }
+    m.live.bf = true;
+    m.live.sspov = refused;
+    m.live.acktim |= m.config.ahen | m.config.dhen;
+    m.live.sspif |= hold;
+    m.live.ckp &= !hold;
+    m.phase = if hold {
+        Phase::HeldBefore { refused, which }
+    } else {
+        Phase::Slot {
+            case: SlotCase::slot_after(refused, false),
+            which,
+        }
+    };
 }
 
 // A whole seven-bit address, by whether it hits.
-fn seven_bits(c: Config, l: Live, byte: u8, hits: bool) -> Moved
-    ensures { result ≡ address_if hits c l byte }
+fn seven_bits(m: &mut Module, byte: u8, hits: bool)
+    ensures { m.new ≡ moved_to m.old (address_if hits m.old.config m.old.live byte) }
 {
     if hits {
-        let mut n = l;
-        n.da = false;
-        n.rw = byte / 1 % 2 == 1;
-        take_in(c, n, byte, c.ahen, Which::Other)
+        m.live.da = false;
+        m.live.rw = wire::bit(byte, 0);
+        take_in(m, byte, m.config.ahen, Which::Other);
     } else {
-        Moved {
-            live: l,
-            phase: Phase::Quiet,
-        }
+        m.phase = Phase::Quiet;
     }
 }
 
 // A high byte that fits: to send, after the full match alone, or to write.
-fn high_fits(c: Config, l: Live, byte: u8, sends: bool) -> Moved
-    ensures { result ≡ high_if true sends l.full c l byte }
+fn high_fits(m: &mut Module, byte: u8, sends: bool)
+    ensures { m.new ≡ moved_to m.old (high_if true sends m.old.live.full m.old.config m.old.live byte) }
 {
-    let mut n = l;
-    n.da = false;
-    if sends {
-        n.rw = true;
-        if l.full {
-            return take_in(c, n, byte, c.ahen, Which::HighToSend);
-        }
-        return Moved {
-            live: l,
-            phase: Phase::Quiet,
-        };
+    if sends & !m.live.full {
+        m.phase = Phase::Quiet;
+        return;
     }
-    n.rw = false;
-    n.full = false;
-    take_in(c, n, byte, c.ahen, Which::High)
+    m.live.da = false;
+    m.live.rw = sends;
+    if sends {
+        take_in(m, byte, m.config.ahen, Which::HighToSend);
+    } else {
+        m.live.full = false;
+        take_in(m, byte, m.config.ahen, Which::High);
+    }
 }
 
 // A whole high byte, by whether it fits.
-fn high_byte(c: Config, l: Live, byte: u8, hits: bool) -> Moved
-    ensures { result ≡ first_if true hits c l byte }
+fn high_byte(m: &mut Module, byte: u8, hits: bool)
+    ensures { m.new ≡ moved_to m.old (first_if true hits m.old.config m.old.live byte) }
 {
     if hits {
-        return high_fits(c, l, byte, byte / 1 % 2 == 1);
-    }
-    let mut n = l;
-    n.full = false;
-    Moved {
-        live: n,
-        phase: Phase::Quiet,
+        high_fits(m, byte, wire::bit(byte, 0));
+    } else {
+        m.live.full = false;
+        m.phase = Phase::Quiet;
     }
 }
 
 // A whole first byte, by whether it hits.
-fn first_byte(c: Config, l: Live, byte: u8, hits: bool) -> Moved
-    ensures { result ≡ first_if (is_ten_bit c) hits c l byte }
+fn first_byte(m: &mut Module, byte: u8, hits: bool)
+    ensures { m.new ≡ moved_to m.old (first_if (is_ten_bit m.old.config) hits m.old.config m.old.live byte) }
 {
-    if mssp::has_ten_bits(c.sspm2, c.sspm1, c.sspm0) {
-        high_byte(c, l, byte, hits)
+    if m.config.has_ten_bits() {
+        high_byte(m, byte, hits);
     } else {
-        seven_bits(c, l, byte, hits)
+        seven_bits(m, byte, hits);
     }
 }
 
 // A whole low byte, by whether it is ADD.
-fn low_byte(c: Config, l: Live, byte: u8, fits: bool) -> Moved
-    ensures { result ≡ low_if fits c l byte }
+fn low_byte(m: &mut Module, byte: u8, fits: bool)
+    ensures { m.new ≡ moved_to m.old (low_if fits m.old.config m.old.live byte) }
 {
     if fits {
-        let mut n = l;
-        n.da = false;
-        take_in(c, n, byte, c.ahen, Which::Low)
+        m.live.da = false;
+        take_in(m, byte, m.config.ahen, Which::Low);
     } else {
-        Moved {
-            live: l,
-            phase: Phase::Slot(SlotCase::Declines, Which::Low),
-        }
+        m.phase = Phase::Slot {
+            case: SlotCase::Declines,
+            which: Which::Low,
+        };
     }
 }
 
 // A whole address at its eighth fall.
-fn address_byte(c: Config, l: Live, byte: u8, low: bool) -> Moved
-    ensures { result ≡ address_byte low c l byte }
+fn address_byte(m: &mut Module, byte: u8, low: bool)
+    ensures { m.new ≡ moved_to m.old (address_byte low m.old.config m.old.live byte) }
 {
     if low {
-        low_byte(c, l, byte, byte == c.add)
+        low_byte(m, byte, byte == m.config.add);
     } else {
-        first_byte(c, l, byte, address::is_taken(address::compare(c, byte)))
+        let hit = address::compare(m.config, byte);
+        first_byte(m, byte, hit.is_taken());
     }
 }
 
 // A whole data byte at its eighth fall.
-fn data_byte(c: Config, l: Live, byte: u8) -> Moved
-    ensures { result ≡ data_byte c l byte }
+fn data_byte(m: &mut Module, byte: u8)
+    ensures { m.new ≡ moved_to m.old (data_byte m.old.config m.old.live byte) }
 {
-    let mut n = l;
-    n.da = true;
-    take_in(c, n, byte, c.dhen, Which::Other)
+    m.live.da = true;
+    take_in(m, byte, m.config.dhen, Which::Other);
 }
 
 // A fall in an address: the eighth ends it, any other ends no byte.
-fn address_fall(c: Config, l: Live, bits: Bits, low: bool) -> Moved
-    ensures { result ≡ address_fall c l bits low }
+fn address_fall(m: &mut Module, bits: Bits, low: bool)
+    ensures { m.new ≡ moved_to m.old (address_fall m.old.config m.old.live bits low) }
 {
-    if wire::is_whole(bits) {
-        address_byte(c, l, bits.value, low)
+    if bits.is_whole() {
+        address_byte(m, bits.value, low);
     } else {
-        Moved {
-            live: l,
-            phase: Phase::Address(bits, low),
-        }
+        m.phase = Phase::Address { bits, low };
     }
 }
 
 // A fall in data, likewise.
-fn data_fall(c: Config, l: Live, bits: Bits, held: bool) -> Moved
-    ensures { result ≡ data_fall c l bits held }
+fn data_fall(m: &mut Module, bits: Bits, held: bool)
+    ensures { m.new ≡ moved_to m.old (data_fall m.old.config m.old.live bits held) }
 {
-    if wire::is_whole(bits) {
-        data_byte(c, l, bits.value)
+    if bits.is_whole() {
+        data_byte(m, bits.value);
     } else {
-        Moved {
-            live: l,
-            phase: Phase::Data(bits, held),
-        }
+        m.phase = Phase::Data { bits, held };
     }
 }
 
 // What follows a byte that was acknowledged: held for sending, or data.
-fn follow(c: Config, l: Live, sends: bool) -> Moved
-    ensures { result ≡ followed sends c l }
+fn follow(m: &mut Module, sends: bool)
+    ensures { m.new ≡ moved_to m.old (followed sends m.old.config m.old.live) }
 {
-    let mut n = l;
-    n.sspif = true;
-    n.ckp = l.ckp & !(sends | c.sen);
-    let data = Phase::Data(wire::no_bits(), c.sen);
-    let next = mssp::pick_phase(sends, Phase::HeldForSending, data);
-    Moved {
-        live: n,
-        phase: next,
-    }
+    m.live.sspif = true;
+    m.live.ckp &= !(sends | m.config.sen);
+    m.phase = if sends {
+        Phase::HeldForSending
+    } else {
+        Phase::Data {
+            bits: Bits::no_bits(),
+            held: m.config.sen,
+        }
+    };
 }
 
 // The hold for ADD begins, with SSPIF.
-fn await_add(l: Live, next: Next) -> Moved
-    ensures { result ≡ awaits_add l next }
+fn await_add(m: &mut Module, next: Next)
+    ensures { m.new ≡ moved_to m.old (awaits_add m.old.live next) }
 {
-    let mut n = l;
-    n.sspif = true;
-    Moved {
-        live: n,
-        phase: Phase::HeldForAdd(next),
-    }
+    m.live.sspif = true;
+    m.phase = Phase::HeldForAdd(next);
 }
 
 // The ninth fall of a slot that pulled, by the byte it belongs to.
-fn pull_fall(c: Config, l: Live, which: Which) -> Moved
-    ensures { result ≡ pull_ended c l which }
+fn pull_fall(m: &mut Module, which: Which)
+    ensures { m.new ≡ moved_to m.old (pull_ended m.old.config m.old.live which) }
 {
-    let mut n = l;
-    n.full = true;
     match which {
-        Which::Other => follow(c, l, !l.da & l.rw),
-        Which::High => await_add(l, Next::NextLow),
-        Which::Low => await_add(n, Next::NextData),
-        Which::HighToSend => follow(c, l, true),
+        Which::Other => follow(m, !m.live.da & m.live.rw),
+        Which::High => await_add(m, Next::NextLow),
+        Which::Low => {
+            m.live.full = true;
+            await_add(m, Next::NextData);
+        }
+        Which::HighToSend => follow(m, true),
     }
 }
 
 // The ninth fall of one that did not. A byte that was refused interrupts, one that ACKDT declined does not, a low byte always.
-fn fail_fall(l: Live, refused: bool, which: Which) -> Moved
-    ensures { result ≡ fail_ended refused l which }
+fn fail_fall(m: &mut Module, refused: bool, which: Which)
+    ensures { m.new ≡ moved_to m.old (fail_ended refused m.old.live which) }
 {
-    let mut n = l;
-    n.sspif = refused | l.sspif;
+    m.live.sspif |= refused;
+    m.phase = Phase::Quiet;
     match which {
-        Which::Other => {}
-        Which::High => {}
-        Which::Low => return await_add(l, Next::NextQuiet),
-        Which::HighToSend => n.full = false,
-    }
-    Moved {
-        live: n,
-        phase: Phase::Quiet,
+        Which::Low => await_add(m, Next::NextQuiet),
+        Which::HighToSend => m.live.full = false,
+        _ => {}
     }
 }
 
 // The ninth fall ends the acknowledge slot.
-fn slot_fall(c: Config, l: Live, slot: SlotCase, which: Which) -> Moved
-    ensures { result ≡ slot_ended c l slot which }
+fn slot_fall(m: &mut Module, slot: SlotCase, which: Which)
+    ensures { m.new ≡ moved_to m.old (slot_ended m.old.config m.old.live slot which) }
 {
     match slot {
-        SlotCase::Pulls => pull_fall(c, l, which),
-        SlotCase::Refuses => fail_fall(l, true, which),
-        SlotCase::Declines => fail_fall(l, false, which),
+        SlotCase::Pulls => pull_fall(m, which),
+        SlotCase::Refuses => fail_fall(m, true, which),
+        SlotCase::Declines => fail_fall(m, false, which),
     }
 }
 
 // A fall in sending: the next bit, or after the eighth the master's acknowledge.
-fn sending_fall(l: Live, byte: u8, place: u8) -> Moved
-    ensures { result ≡ bit_sent l byte place }
+fn sending_fall(m: &mut Module, byte: u8, place: u8)
+    ensures { m.new ≡ moved_to m.old (bit_sent m.old.live byte place) }
 {
     if place < 7 {
-        Moved {
-            live: l,
-            phase: Phase::Sending(byte, place + 1),
-        }
+        m.phase = Phase::Sending {
+            byte,
+            place: place + 1,
+        };
     } else {
-        let mut n = l;
-        n.bf = false;
-        n.da = true;
-        Moved {
-            live: n,
-            phase: Phase::MasterAcknowledge,
-        }
+        m.live.bf = false;
+        m.live.da = true;
+        m.phase = Phase::MasterAcknowledge;
     }
 }
 
 // The fall after the master's acknowledge: on with the next byte, or done.
-fn answer_fall(l: Live) -> Moved
-    ensures { result ≡ answered l }
+fn answer_fall(m: &mut Module)
+    ensures { m.new ≡ moved_to m.old (answered m.old.live) }
 {
-    let mut n = l;
-    n.sspif = true;
-    n.rw = l.rw & !l.ackstat;
-    n.ckp = l.ckp & l.ackstat;
-    let next = mssp::pick_phase(l.ackstat, Phase::Quiet, Phase::HeldForSending);
-    Moved {
-        live: n,
-        phase: next,
-    }
+    m.live.sspif = true;
+    m.live.rw &= !m.live.ackstat;
+    m.live.ckp &= m.live.ackstat;
+    m.phase = if m.live.ackstat {
+        Phase::Quiet
+    } else {
+        Phase::HeldForSending
+    };
 }
 
-fn on_fall(c: Config, l: Live, phase: Phase) -> Moved
-    ensures { result ≡ fallen c l phase }
+// A fall. In a hold, and in a quiet module, it moves nothing.
+fn on_fall(m: &mut Module)
+    ensures { m.new ≡ moved_to m.old (fallen m.old.config m.old.live m.old.phase) }
 {
-    match phase {
-        Phase::Quiet => Moved {
-            live: l,
-            phase: phase,
-        },
-        Phase::Address(bits, low) => address_fall(c, l, bits, low),
-        Phase::Data(bits, held) => data_fall(c, l, bits, held),
-        Phase::HeldBefore(_, _) => Moved {
-            live: l,
-            phase: phase,
-        },
-        Phase::Slot(slot, which) => slot_fall(c, l, slot, which),
-        Phase::HeldForSending => Moved {
-            live: l,
-            phase: phase,
-        },
-        Phase::Sending(byte, place) => sending_fall(l, byte, place),
-        Phase::MasterAcknowledge => answer_fall(l),
-        Phase::HeldForAdd(_) => Moved {
-            live: l,
-            phase: phase,
-        },
+    match m.phase {
+        Phase::Address { bits, low } => address_fall(m, bits, low),
+        Phase::Data { bits, held } => data_fall(m, bits, held),
+        Phase::Slot { case: slot, which } => slot_fall(m, slot, which),
+        Phase::Sending { byte, place } => sending_fall(m, byte, place),
+        Phase::MasterAcknowledge => answer_fall(m),
+        _ => {}
     }
 }
 
@@ -333,110 +291,68 @@ fn data_rise(bits: Bits, held: bool, sda: bool) -> Phase
     ensures { result ≡ data_risen bits held sda }
 {
     if held {
-        Phase::Data(bits, true)
+        Phase::Data { bits, held: true }
     } else {
-        Phase::Data(wire::push(bits, sda), false)
+        Phase::Data {
+            bits: bits.push(sda),
+            held: false,
+        }
     }
 }
 
 // A rise: a bit of an address or of data, the end of ACKTIM in the slot, the master's acknowledge.
-fn on_rise(l: Live, phase: Phase, sda: bool) -> Moved
-    ensures { result ≡ risen l phase sda }
+fn on_rise(m: &mut Module, sda: bool)
+    ensures { m.new ≡ moved_to m.old (risen m.old.live m.old.phase sda) }
 {
-    let mut n = l;
-    let mut next = phase;
-    match phase {
-        Phase::Quiet => {}
-        Phase::Address(bits, low) => next = Phase::Address(wire::push(bits, sda), low),
-        Phase::Data(bits, held) => next = data_rise(bits, held, sda),
-        Phase::HeldBefore(_, _) => {}
-        Phase::Slot(_, _) => n.acktim = false,
-        Phase::HeldForSending => {}
-        Phase::Sending(_, _) => {}
-        Phase::MasterAcknowledge => n.ackstat = sda,
-        Phase::HeldForAdd(_) => {}
-    }
-    Moved {
-        live: n,
-        phase: next,
+    match m.phase {
+        Phase::Address { bits, low } => m.phase = Phase::Address {
+            bits: bits.push(sda),
+            low,
+        },
+        Phase::Data { bits, held } => m.phase = data_rise(bits, held, sda),
+        Phase::Slot { .. } => m.live.acktim = false,
+        Phase::MasterAcknowledge => m.live.ackstat = sda,
+        _ => {}
     }
 }
 
 // What an edge does to the module.
-fn on_edge(c: Config, l: Live, phase: Phase, e: Edge) -> Moved
-    ensures { result ≡ edge_step c l phase e }
+fn on_edge(m: &mut Module, edge: Edge)
+    ensures { m.new ≡ moved_to m.old (edge_step m.old.config m.old.live m.old.phase edge) }
 {
-    match e {
-        Edge::Still => Moved {
-            live: l,
-            phase: phase,
-        },
-        Edge::Start => {
-            let n = start(c, l, mssp::is_sending(phase));
-            let bits = wire::no_bits();
-            Moved {
-                live: n,
-                phase: Phase::Address(bits, false),
-            }
-        }
-        Edge::Stop => {
-            let n = stop(c, l, mssp::is_sending(phase));
-            Moved {
-                live: n,
-                phase: Phase::Quiet,
-            }
-        }
-        Edge::Rise(sda) => on_rise(l, phase, sda),
-        Edge::Fall => on_fall(c, l, phase),
+    match edge {
+        Edge::Still => {}
+        Edge::Start => start(m),
+        Edge::Stop => stop(m),
+        Edge::Rise(sda) => on_rise(m, sda),
+        Edge::Fall => on_fall(m),
     }
 }
 
 // The module sees a wire level. Disabled, it only remembers it.
-fn see(m: Module, scl: bool, sda: bool) -> Module
-    ensures { result ≡ seen m scl sda }
+fn see(m: &mut Module, level: Level)
+    ensures { m.new ≡ seen m.old level.scl level.sda }
 {
-    let c = m.config;
-    let l = m.live;
-    let phase = m.phase;
-    let line = m.line;
-    if c.sspen {
-        let e = wire::edge_of(line, scl, sda);
-        let next = on_edge(c, l, phase, e);
-        let n = next.live;
-        let q = next.phase;
-        Module {
-            config: c,
-            live: n,
-            phase: q,
-            line: wire::line_after(line.mark, e, scl, sda),
-        }
+    if m.config.sspen {
+        let edge = m.line.read(level);
+        on_edge(m, edge);
     } else {
-        Module {
-            config: c,
-            live: l,
-            phase: phase,
-            line: wire::line_after(line.mark, Edge::Still, scl, sda),
-        }
+        m.line = m.line.line_after(Edge::Still, level);
     }
 }
 
-// One sample, what everybody else drives: a line is low where the sample is low or the module pulls.
-pub fn sample(m: Module, scl: bool, sda: bool) -> Module
-    ensures { result ≡ sampled m scl sda }
+/// One sample, what everybody else drives: a line is low where the sample is low or the module pulls.
+pub fn sample(m: &mut Module, level: Level)
+    ensures { m.new ≡ sampled m.old level.scl level.sda }
 {
-    let phase = m.phase;
-    let scl_pulled = mssp::pulls_scl(phase);
-    let sda_pulled = mssp::pulls_sda(phase);
-    see(m, !scl_pulled & scl, !sda_pulled & sda)
+    let seen = level.on_wire(m.phase.pulls_scl(), m.phase.pulls_sda());
+    see(m, seen);
 }
 
-// The short way: on the wire, with what the phase pulls, the level is what SCL and SDA were.
-pub fn is_still(phase: Phase, scl: bool, sda: bool, level: u8) -> bool
-    ensures { result ≡ is_still phase scl sda level }
+/// The short way: on the wire, with what the phase pulls, the level is what SCL and SDA were.
+pub fn is_still(phase: Phase, before: Level, level: u8) -> bool
+    ensures { result ≡ is_still phase before.scl before.sda level }
 {
-    let scl_pulled = mssp::pulls_scl(phase);
-    let sda_pulled = mssp::pulls_sda(phase);
-    let scl_now = !scl_pulled & (level / 2 % 2 == 1);
-    let sda_now = !sda_pulled & (level / 1 % 2 == 1);
-    (scl_now == scl) & (sda_now == sda)
+    let driven = Level::from(level);
+    driven.on_wire(phase.pulls_scl(), phase.pulls_sda()) == before
 }

@@ -1,16 +1,13 @@
 -- What every call promises, of whatever kind its state is (01, "Calls, refusals and their order" and "What the contracts have to
 -- decide"): only one outcome fits a contract, a refused call leaves the state's bytes and the buffer's, an accepted one leaves a
 -- state's image.
-use Rattle.std.specs.Prelude.{ℕ, zero, suc, ◌≡◌, refl, false, List}
+use Rattle.std.specs.Prelude.{ℕ, zero, suc, ◌≡◌, refl, false, Ok, Err, List, Option, Some, None}
 use Rattle.std.proofs.Common.{sym, ap, ◌∙◌, arith}
-use Rattle.std.proofs.Math.Option.{Option, none, some}
 use Rattle.refusals.specs.declared.Refusal.{Refusal}
 use Rattle.refusals.specs.declared.Refusal.TheVariants.{NoState, NoRegister, ReservedBit, NoMode, ModeChange, MaskedTenBits, NoWindow, NoItem, PastRecord}
-use Rattle.refusals.specs.declared.Verdict.{Verdict}
-use Rattle.refusals.specs.declared.Verdict.TheVariants.{Done, Refused}
-use Rattle.refusals.specs.Numbers.{accepted}
+use Rattle.refusals.specs.Numbers.{Verdict, accepted}
 use Rattle.mssp.specs.declared.Module.{Module}
-use Rattle.registers.specs.declared.Access.{Access}
+use Rattle.registers.specs.Values.{Access}
 use Rattle.settling.specs.declared.Answer.{Answer}
 use Rattle.settling.specs.Outcome.{Outcome, outcome, Lent, lent, answer_of, refused, settled, settled_access, no_state, by_state, by_access, Keeps, KeepsLent}
 use Rattle.settling.specs.Left.{ImageOfSome, Leaves}
@@ -30,23 +27,23 @@ one_lent e f =
 -- What holds where there is no state, and on every state that the bytes can be an image of.
 pub by_state_lem :
     {S A : Type 0} (P : A → Type 0) (known : Option S) (nothing : A) (work : S → A) → P nothing
-    → ((s : S) → known ≡ some s → P (work s)) → P (by_state known nothing work)
+    → ((s : S) → known ≡ Some s → P (work s)) → P (by_state known nothing work)
 unfolding by_state
-by_state_lem P none nothing work p q = p
-by_state_lem P (some s) nothing work p q = q s refl
+by_state_lem P None nothing work p q = p
+by_state_lem P (Some s) nothing work p q = q s refl
 
 -- ---- refused, nothing changes
 module _ (bytes : List ℕ) where
   pub settled_keeps : (v : Verdict) (item : ℕ) (image : List ℕ) → Keeps bytes (settled v item image bytes)
-  settled_keeps (Done value) item image h = absurd (omega arith)
-  settled_keeps (Refused why) item image h = refl
+  settled_keeps (Ok value) item image h = absurd (omega arith)
+  settled_keeps (Err why) item image h = refl
 
   -- Refused, the work on the buffer must have left it.
   pub settled_keeps_lent :
       (buffer : List ℕ) (v : Verdict) (item : ℕ) (image : List ℕ) {left : List ℕ} → (accepted v ≡ false → left ≡ buffer)
       → KeepsLent bytes buffer (lent (settled v item image bytes) left)
-  settled_keeps_lent buffer (Done value) item image same h = absurd (omega arith)
-  settled_keeps_lent buffer (Refused why) item image same h = (refl, same refl)
+  settled_keeps_lent buffer (Ok value) item image same h = absurd (omega arith)
+  settled_keeps_lent buffer (Err why) item image same h = (refl, same refl)
 
   module _ {S : Type 0} (known : Option S) where
     pub state_keeps : (work : S → Outcome) → ((s : S) → Keeps bytes (work s)) → Keeps bytes (by_state known (no_state bytes) work)
@@ -83,12 +80,12 @@ module _ {S : Type 0} (decode : List ℕ → Option S) where
   pub settled_leaves :
       (v : Verdict) (item : ℕ) {image : List ℕ} (bytes : List ℕ) → ImageOfSome decode image
       → Leaves decode (settled v item image bytes)
-  settled_leaves (Done value) item bytes image = λ e. image
-  settled_leaves (Refused why) item bytes image = refused_never_accepted why item bytes
+  settled_leaves (Ok value) item bytes image = λ e. image
+  settled_leaves (Err why) item bytes image = refused_never_accepted why item bytes
 
   module _ (bytes : List ℕ) where
     pub state_leaves :
-        (work : S → Outcome) → ((s : S) → decode bytes ≡ some s → Leaves decode (work s))
+        (work : S → Outcome) → ((s : S) → decode bytes ≡ Some s → Leaves decode (work s))
         → Leaves decode (by_state (decode bytes) (no_state bytes) work)
     state_leaves work leaves =
         by_state_lem (Leaves decode) (decode bytes) (no_state bytes) work (refused_never_accepted NoState 0 bytes) leaves
@@ -96,14 +93,14 @@ module _ {S : Type 0} (decode : List ℕ → Option S) where
     -- An access, where the state with the module that it leaves has an image.
     pub access_leaves :
         (module_in : S → Module) (image_with : S → Module → List ℕ) (work : Module → Access)
-        → ((s : S) → decode bytes ≡ some s → ImageOfSome decode (image_with s (work (module_in s)).mssp))
+        → ((s : S) → decode bytes ≡ Some s → ImageOfSome decode (image_with s (work (module_in s)).mssp))
         → Leaves decode (by_access module_in image_with (decode bytes) work bytes)
     access_leaves module_in image_with work image =
         state_leaves (λ s. settled_access (image_with s) (work (module_in s)) bytes)
         (λ s e. settled_leaves (work (module_in s)).verdict 0 bytes (image s e))
 
     pub state_leaves_lent :
-        (buffer : List ℕ) (work : S → Lent) → ((s : S) → decode bytes ≡ some s → Leaves decode (work s).outcome)
+        (buffer : List ℕ) (work : S → Lent) → ((s : S) → decode bytes ≡ Some s → Leaves decode (work s).outcome)
         → Leaves decode (by_state (decode bytes) (lent (no_state bytes) buffer) work).outcome
     state_leaves_lent buffer work leaves =
         by_state_lem (λ o. Leaves decode o.outcome) (decode bytes) (lent (no_state bytes) buffer) work

@@ -1,13 +1,11 @@
 -- What the code of a call knows on each way, and what follows, for every kind of state.
-use Rattle.std.specs.Prelude.{ℕ, ◌≤◌, ◌≡◌, refl, List, ◌++◌, length, take, drop}
+use Rattle.std.specs.Prelude.{ℕ, ◌≤◌, ◌≡◌, refl, Ok, Err, List, ◌++◌, length, take, drop, Option, Some, None}
 use Rattle.std.proofs.Common.{sym, ap, ◌∙◌, append-nil, arith, drop_of_length-le, eq-eqb}
-use Rattle.std.proofs.Math.Option.{Option, none, some}
 use Rattle.std.proofs.Math.Seq.{take-length}
 use Rattle.refusals.specs.declared.Refusal.{Refusal}
-use Rattle.refusals.specs.declared.Verdict.{Verdict}
-use Rattle.refusals.specs.declared.Verdict.TheVariants.{Done, Refused}
+use Rattle.refusals.specs.Numbers.{Verdict}
 use Rattle.mssp.specs.declared.Module.{Module}
-use Rattle.registers.specs.declared.Access.{Access}
+use Rattle.registers.specs.Values.{Access}
 use Rattle.settling.specs.declared.Answer.{Answer}
 use Rattle.settling.specs.Outcome.{Outcome, outcome, done, refused, image_over, settled, settled_access, no_state, by_state, by_access}
 
@@ -22,12 +20,12 @@ laid_over image bytes l e =
 
 module _ (item : ℕ) (image bytes : List ℕ) where
   pub settle_done :
-      {verdict : Verdict} {value : ℕ} {r : Answer} {left : List ℕ} → verdict ≡ Done value → r ≡ done value → left ≡ image
+      {verdict : Verdict} {value : ℕ} {r : Answer} {left : List ℕ} → verdict ≡ Ok value → r ≡ done value → left ≡ image
       → outcome r left ≡ settled verdict item image bytes
   settle_done e f g = rw (e, f, g)
 
   pub settle_refused :
-      {verdict : Verdict} {why : Refusal} {r : Answer} → verdict ≡ Refused why → r ≡ refused why item
+      {verdict : Verdict} {why : Refusal} {r : Answer} → verdict ≡ Err why → r ≡ refused why item
       → outcome r bytes ≡ settled verdict item image bytes
   settle_refused e f = rw (e, f)
 
@@ -39,11 +37,11 @@ settled-whole verdict item image bytes l e f = rw (e, eq-eqb (length bytes) (len
 
 -- ---- by the state that the bytes decode to
 module _ {S A : Type 0} {known found : Option S} (decoded : found ≡ known) (nothing : A) (work : S → A) {o : A} where
-  pub no_image : found ≡ none → o ≡ nothing → o ≡ by_state known nothing work
+  pub no_image : found ≡ None → o ≡ nothing → o ≡ by_state known nothing work
   unfolding by_state
   no_image e f = rw (sym decoded ∙ e) f
 
-  pub of_state : {s : S} → found ≡ some s → o ≡ work s → o ≡ by_state known nothing work
+  pub of_state : {s : S} → found ≡ Some s → o ≡ work s → o ≡ by_state known nothing work
   unfolding by_state
   of_state e f = rw (sym decoded ∙ e) f
 
@@ -51,7 +49,7 @@ module _ {S A : Type 0} {known found : Option S} (decoded : found ≡ known) (no
 -- An access to the module of the state that the bytes decode to.
 pub access_settled :
     {S : Type 0} (module_in : S → Module) (image_with : S → Module → List ℕ) (work : Module → Access) (bytes : List ℕ)
-    {known : Option S} {s : S} {access : Access} {o : Outcome} → known ≡ some s → access ≡ work (module_in s)
+    {known : Option S} {s : S} {access : Access} {o : Outcome} → known ≡ Some s → access ≡ work (module_in s)
     → o ≡ settled_access (image_with s) access bytes → o ≡ by_access module_in image_with known work bytes
 access_settled module_in image_with work bytes {s = s} is e f =
     of_state refl (no_state bytes) (λ t. settled_access (image_with t) (work (module_in t)) bytes) is

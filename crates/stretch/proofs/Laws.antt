@@ -1,59 +1,45 @@
 -- The ways through the functions of a stretch: what the code knows on each, and what follows.
-use Rattle.std.specs.Prelude.{ℕ, ◌+◌, ◌%◌, ◌<◌, ◌≤◌, ◌≡◌, refl, Bool, true, false, cond, ◌&&◌, ◌||◌, not, List, [], ◌∷◌, ltb}
-use Rattle.std.proofs.Common.{sym, ap, ap₂, subst, ◌∙◌, lt-ltb, le-ltb}
-use Rattle.std.specs.Bool.{beq}
+use Rattle.std.specs.Prelude.{ℕ, ◌+◌, ◌%◌, ◌≤◌, ◌≡◌, refl, Bool, true, false, cond, ◌&&◌, ◌||◌, not, [], ◌∷◌, ltb, Option, Some, None}
+use Rattle.std.proofs.Common.{sym, ap, ap₂, subst, ◌∙◌, le-ltb}
 use Rattle.truth.specs.Tests.{never}
 use Rattle.wire.specs.declared.Bits.{Bits}
-use Rattle.wire.specs.declared.Remembered.{Remembered}
-use Rattle.wire.specs.declared.Remembered.TheVariants.{Nothing, Wire}
-use Rattle.wire.specs.Wire.{scl_of, sda_of, on_wire, condition, edge_from}
+use Rattle.wire.specs.declared.Level.{Level}
+use Rattle.wire.specs.Wire.{scl_of, sda_of, on_wire, edge_from, wire}
 use Rattle.wire.specs.Laws.{level_again}
 use Rattle.mssp.specs.declared.Phase.{Phase}
 use Rattle.mssp.specs.declared.Phase.TheVariants.{Quiet, Address, Data, HeldBefore, Slot, HeldForSending, Sending, MasterAcknowledge, HeldForAdd}
-use Rattle.mssp.specs.declared.Stand.{Stand}
 use Rattle.mssp.specs.Drivers.{scl_pulled, sda_pulled}
 use Rattle.stretch.specs.declared.Seen.{Seen}
+use Rattle.stretch.specs.declared.Taken.{Taken}
+use Rattle.stretch.specs.declared.Sent.{Sent}
 use Rattle.stretch.specs.declared.Stretch.{Stretch}
 use Rattle.stretch.specs.Seen.{seen_on, ended_by, ends, taken_at, place_seen}
-use Rattle.stretch.specs.Walk.{walked, steps}
-use Rattle.stretch.specs.Stretch.{taking_stops, taking_goes, sent_level, sending_stops, sending_goes, resting_stops, resting_goes, stretch_at, rise_rule, phase_stretch, stretch_from, stand_stretch, seen_in, is_reading, fall_ends, phase_over}
+use Rattle.stretch.specs.Walk.{walked, steps, Idle}
+use Rattle.stretch.specs.Stretch.{taken_with, taking_stops, taking_goes, sent_with, sent_level, sending_stops, sending_goes, resting_stops, resting_goes, stretch_at, rise_rule, phase_stretch, fall_ends, phase_over}
 
--- SDA's change is a Start or a Stop, but for the mark.
-changed : (mark before after rise fall : Bool) → not mark && not (beq before after) ≡ ended_by rise fall (condition mark before after)
-changed true before after rise fall = refl
-changed false true true rise fall = refl
-changed false true false rise fall = refl
-changed false false true rise fall = refl
-changed false false false rise fall = refl
-
-pub scl_stays :
-    (w : Seen) (scl sda rise fall : Bool) → w.scl ≡ true → scl ≡ true
-    → not w.mark && not (beq w.sda sda) ≡ ends w scl sda rise fall
-scl_stays w scl sda rise fall h g =
-    changed w.mark w.sda sda rise fall
-    ∙ sym (ap₂ (λ (a s : Bool). ended_by rise fall (edge_from w.mark (Wire a w.sda) s sda)) h g)
-
--- What ends a stretch: no level, or a level that does.
-pub no_level : (item : ℕ) (b : Bool) → 3 < item → ltb 3 item || b ≡ true
-no_level item b h = ap (λ (t : Bool). t || b) (lt-ltb 3 item h)
-
+-- A level ends a stretch where its edge does.
 pub by_level : (item : ℕ) {a b v : Bool} → item ≤ 3 → a ≡ b → a ≡ v → ltb 3 item || b ≡ v
 by_level item {a} {b} h e f = ap (λ (t : Bool). t || b) (le-ltb 3 item h) ∙ sym e ∙ f
+
+-- A step that was taken, and one that was not.
+pub gone_on : {P : Type 0} (t : Bool) {q r : P} → Some q ≡ cond t None (Some r) → (t ≡ false) × (q ≡ r)
+gone_on true e = cc
+gone_on false e = (refl, cc)
+
+pub ended_on : {P : Type 0} (t : Bool) (r : P) → None ≡ cond t None (Some r) → t ≡ true
+ended_on true r e = refl
+ended_on false r e = cc
 
 -- ---- the same level again: once seen it changes nothing
 twice : (scl mark : Bool) → scl && (scl && mark) ≡ scl && mark
 twice true mark = refl
 twice false mark = refl
 
-still : (mark scl sda rise fall : Bool) → ended_by rise fall (edge_from (scl && mark) (Wire scl sda) scl sda) ≡ false
+still : (mark scl sda rise fall : Bool) → ended_by rise fall (edge_from (scl && mark) (Some (wire scl sda)) scl sda) ≡ false
 still mark scl sda rise fall = ap (ended_by rise fall) (level_again (scl && mark) scl sda (twice scl mark)).0
 
 seen_again : (w : Seen) (scl sda : Bool) → seen_on (seen_on w scl sda) scl sda ≡ seen_on w scl sda
 seen_again w scl sda = ap (λ (mark : Bool). record { scl = scl; sda = sda; mark = mark }) (twice scl w.mark)
-
--- An item ends nothing and moves nothing at p.
-abbrev pub Idle : {P : Type 0} → (P → ℕ → Bool) → (P → ℕ → P) → P → ℕ → Type 0
-Idle stop go p item = (stop p item ≡ false) × (go p item ≡ p)
 
 level_still : (item : ℕ) → item ≤ 3 → (w : Seen) (scl sda rise fall : Bool) → ltb 3 item || ends (seen_on w scl sda) scl sda rise fall ≡ false
 level_still item h w scl sda rise fall = by_level item h refl (still w.mark scl sda rise fall)
@@ -62,10 +48,10 @@ taken_again : (b : Bits) (w : Seen) (scl sda : Bool) → taken_at b (seen_on w s
 taken_again b w true sda = refl
 taken_again b w false sda = refl
 
-pub taking_again : (p : Bits × Seen) (item : ℕ) → item ≤ 3 → Idle taking_stops taking_goes (taking_goes p item) item
+pub taking_again : (p : Taken) (item : ℕ) → item ≤ 3 → Idle taking_stops taking_goes (taking_goes p item) item
 taking_again p item h =
-    let scl : Bool = scl_of item in let sda : Bool = sda_of item in let b : Bits = taken_at p.0 p.1 scl sda in
-    (level_still item h p.1 scl sda _ _, ap₂ (λ (x : Bits) (y : Seen). (x, y)) (taken_again b p.1 scl sda) (seen_again p.1 scl sda))
+    let scl : Bool = scl_of item in let sda : Bool = sda_of item in let b : Bits = taken_at p.bits p.wire scl sda in
+    (level_still item h p.wire scl sda _ _, ap₂ taken_with (taken_again b p.wire scl sda) (seen_again p.wire scl sda))
 
 pub resting_again :
     (holds pulls rise fall : Bool) (w : Seen) (item : ℕ) → item ≤ 3
@@ -84,13 +70,12 @@ place_stays place true false h = never (sym h)
 place_stays place false scl h = refl
 
 pub sending_again :
-    (byte : ℕ) (p : ℕ × Seen) (item : ℕ) → item ≤ 3 → p.1.scl && not (scl_of item) ≡ false
-    → Idle (sending_stops byte) (sending_goes byte) (sending_goes byte p item) item
-sending_again byte p item h f =
-    let place : ℕ = p.0 in let w : Seen = p.1 in let scl : Bool = scl_of item in
+    (p : Sent) (item : ℕ) → item ≤ 3 → p.wire.scl && not (scl_of item) ≡ false → Idle sending_stops sending_goes (sending_goes p item) item
+sending_again p item h f =
+    let byte : ℕ = p.byte in let place : ℕ = p.place in let w : Seen = p.wire in let scl : Bool = scl_of item in
     let sda : Bool = sent_level byte place item in
-    subst (λ (x : ℕ). Idle (sending_stops byte) (sending_goes byte) (x, seen_on w scl sda) item) (sym (place_stays place w.scl scl f))
-    (level_still item h w scl sda _ _, ap₂ (λ (x : ℕ) (y : Seen). (x, y)) (placed_again place w scl sda) (seen_again w scl sda))
+    subst (λ (x : ℕ). Idle sending_stops sending_goes (sent_with byte x (seen_on w scl sda)) item) (sym (place_stays place w.scl scl f))
+    (level_still item h w scl sda _ _, ap₂ (sent_with byte) (placed_again place w scl sda) (seen_again w scl sda))
 
 -- ---- a single item: where it stops the stretch, and where the stretch goes over it
 stop_or_go : {P : Type 0} (stop : Bool) (p q : P) (at : P → ℕ → Stretch) → cond stop (at p 0) (at q 1) ≡ at (cond stop p q) (cond stop 0 1)
@@ -111,15 +96,15 @@ over_is : (ph : Phase) (acktim : Bool) (w : Seen) (level : ℕ) → over_of ph a
 unfolding walked steps
 over_is Quiet acktim w level = stop_or_go (stops Quiet acktim w level) _ _ (stretch_at Quiet)
 over_is (Address bits low) acktim w level =
-    stop_or_go (stops (Address bits low) acktim w level) (bits, w) (taking_goes (bits, w) level) (λ (p : Bits × Seen). stretch_at (Address p.0 low) p.1)
+    stop_or_go (stops (Address bits low) acktim w level) (taken_with bits w) (taking_goes (taken_with bits w) level) (λ (p : Taken). stretch_at (Address p.bits low) p.wire)
 over_is (Data bits true) acktim w level = stop_or_go (stops (Data bits true) acktim w level) _ _ (stretch_at (Data bits true))
 over_is (Data bits false) acktim w level =
-    stop_or_go (stops (Data bits false) acktim w level) (bits, w) (taking_goes (bits, w) level) (λ (p : Bits × Seen). stretch_at (Data p.0 false) p.1)
+    stop_or_go (stops (Data bits false) acktim w level) (taken_with bits w) (taking_goes (taken_with bits w) level) (λ (p : Taken). stretch_at (Data p.bits false) p.wire)
 over_is (HeldBefore refused which) acktim w level = stop_or_go (stops (HeldBefore refused which) acktim w level) _ _ (stretch_at (HeldBefore refused which))
 over_is (Slot slot which) acktim w level = stop_or_go (stops (Slot slot which) acktim w level) _ _ (stretch_at (Slot slot which))
 over_is HeldForSending acktim w level = stop_or_go (stops HeldForSending acktim w level) _ _ (stretch_at HeldForSending)
 over_is (Sending byte place) acktim w level =
-    stop_or_go (stops (Sending byte place) acktim w level) (place, w) (sending_goes byte (place, w) level) (λ (p : ℕ × Seen). stretch_at (Sending byte p.0) p.1)
+    stop_or_go (stops (Sending byte place) acktim w level) (sent_with byte place w) (sending_goes (sent_with byte place w) level) (λ (p : Sent). stretch_at (Sending byte p.place) p.wire)
 over_is MasterAcknowledge acktim w level = stop_or_go (stops MasterAcknowledge acktim w level) _ _ (stretch_at MasterAcknowledge)
 over_is (HeldForAdd next) acktim w level = stop_or_go (stops (HeldForAdd next) acktim w level) _ _ (stretch_at (HeldForAdd next))
 
@@ -131,26 +116,3 @@ module _ (ph : Phase) (acktim : Bool) (w : Seen) (level : ℕ) where
       let scl : Bool = on_wire (scl_pulled ph) (scl_of level) in let sda : Bool = on_wire (sda_pulled ph) (sda_of level) in
       stops ph acktim w level ≡ false → stretch_at (phase_over ph w scl sda) (seen_on w scl sda) 1 ≡ phase_stretch ph acktim w (level ∷ [])
   over_goes e = rw e at (over_is ph acktim w level)
-
--- ---- whether the module reads at all, as the code has found it
-module _ (s : Stand) (items : List ℕ) {w : Seen} {reading : Bool} (seen : w ≡ seen_in s.line.remembered s.line.mark) (asked : reading ≡ is_reading s.enabled s.line.remembered) where
-  read_if :
-      (on : Bool) (rem : Remembered) → is_reading on rem ≡ true
-      → phase_stretch s.phase s.acktim (seen_in rem s.line.mark) items ≡ stretch_from on rem s.line.mark s.phase s.acktim items
-  read_if on Nothing e = never e
-  read_if true (Wire scl sda) e = refl
-  read_if false (Wire scl sda) e = never e
-
-  pub read_on_lem : {r : Stretch} → reading ≡ true → r ≡ phase_stretch s.phase s.acktim w items → r ≡ stand_stretch s items
-  read_on_lem t e =
-      e ∙ ap (λ (x : Seen). phase_stretch s.phase s.acktim x items) seen ∙ read_if s.enabled s.line.remembered (sym asked ∙ t)
-
-  unread_if :
-      (on : Bool) (rem : Remembered) → is_reading on rem ≡ false
-      → stretch_at s.phase (seen_in rem s.line.mark) 0 ≡ stretch_from on rem s.line.mark s.phase s.acktim items
-  unread_if on Nothing e = refl
-  unread_if true (Wire scl sda) e = never (sym e)
-  unread_if false (Wire scl sda) e = refl
-
-  pub unread : {r : Stretch} → reading ≡ false → r ≡ stretch_at s.phase w 0 → r ≡ stand_stretch s items
-  unread f e = e ∙ ap (λ (x : Seen). stretch_at s.phase x 0) seen ∙ unread_if s.enabled s.line.remembered (sym asked ∙ f)

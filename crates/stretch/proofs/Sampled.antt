@@ -16,9 +16,10 @@ use Rattle.mssp.specs.declared.Module.{Module}
 use Rattle.mssp.specs.Module.{module_of, set_acktim}
 use Rattle.mssp.specs.Phases.{bits_of, is_sending}
 use Rattle.mssp.specs.Drivers.{scl_pulled, sda_pulled}
-use Rattle.sampling.specs.declared.Moved.{Moved}
-use Rattle.sampling.specs.Rules.{◌at◌, address_fall_if, data_fall_if, bit_sent_if, edge_step, seen_if, sampled}
+use Rattle.sampling.specs.Rules.{Moved, ◌at◌, address_fall_if, data_fall_if, bit_sent_if, edge_step, seen_if, sampled}
 use Rattle.stretch.specs.declared.Seen.{Seen}
+use Rattle.stretch.specs.declared.Taken.{Taken}
+use Rattle.stretch.specs.declared.Sent.{Sent}
 use Rattle.stretch.specs.Seen.{line_of, seen_on, ended_by, ends, taken_at, place_seen}
 use Rattle.stretch.specs.Stretch.{takes_bits, with_bits, rise_rule, fall_rule, taking_stops, taking_goes, sending_stops, sending_goes, resting_stops, resting_goes, phase_over}
 
@@ -113,63 +114,50 @@ pub record Sampled (c : Config) (l : Live) (ph : Phase) (w : Seen) (item : ℕ) 
   pub wire : w' ≡ seen_on w (on_wire (scl_pulled ph) (scl_of item)) (on_wire (sda_pulled ph) (sda_of item))
 
 module _ (c : Config) (enabled : c.sspen ≡ true) (l : Live) where
-  -- The bits of an address and of data move alike.
-  taken_goes :
-      (ph : Bits → Phase) (p : Bits × Seen) (item : ℕ)
-      → ((sda : Bool) → edge_step c l (ph p.0) (Rise sda) ≡ l at ph (pushed p.0 sda))
-      → (whole p.0 ≡ false → edge_step c l (ph p.0) Fall ≡ l at ph p.0)
-      → ends p.1 (scl_of item) (sda_of item) false (whole p.0) ≡ false
-      → seen_if c.sspen (module_seen c l (ph p.0) p.1) (scl_of item) (sda_of item)
-      ≡ module_seen c l (ph (taking_goes p item).0) (taking_goes p item).1
-  taken_goes ph p item rises falls h =
-      let b : Bits = p.0 in let w : Seen = p.1 in let scl : Bool = scl_of item in let sda : Bool = sda_of item in
-      ap (λ (t : Bool). seen_if t (module_seen c l (ph b) w) scl sda) enabled
-      ∙ goes c l (ph b) false (whole b) (λ (x : Bool). ph (pushed b x)) (ph b) (λ e. rises) falls w.mark w.scl w.sda scl sda h
-      ∙ ap (λ (x : Phase). module_seen c l x (taking_goes p item).1) (taken_phase ph b w.scl scl sda)
-
-  pub sending_goes_lem :
-      (byte : ℕ) (p : ℕ × Seen) (item : ℕ) → sending_stops byte p item ≡ false
-      → Sampled c l (Sending byte p.0) p.1 item (Sending byte (sending_goes byte p item).0) (sending_goes byte p item).1
-  sending_goes_lem byte p item h =
-      let place : ℕ = p.0 in let w : Seen = p.1 in
-      let sda : Bool = on_wire (sda_pulled (Sending byte place)) (sda_of item) in
+  -- An item that ends nothing is a sample that leads where the edges of the phase lead.
+  goes_over :
+      (ph ph' : Phase) (w : Seen) (item : ℕ) (rise fall : Bool) (up : Bool → Phase) (down : Phase)
+      → (rise ≡ false → (sda : Bool) → edge_step c l ph (Rise sda) ≡ l at up sda)
+      → (fall ≡ false → edge_step c l ph Fall ≡ l at down)
+      → let scl : Bool = on_wire (scl_pulled ph) (scl_of item) in let sda : Bool = on_wire (sda_pulled ph) (sda_of item) in
+      ltb 3 item || ends w scl sda rise fall ≡ false
+      → (ends w scl sda rise fall ≡ false → phase_by ph (up sda) down w.scl scl ≡ ph') → ph' ≡ phase_over ph w scl sda
+      → Sampled c l ph w item ph' (seen_on w scl sda)
+  goes_over ph ph' w item rise fall up down rises falls h leads over =
+      let scl : Bool = on_wire (scl_pulled ph) (scl_of item) in let sda : Bool = on_wire (sda_pulled ph) (sda_of item) in
       let k = level_goes item h in
       record {
         level = k.0;
-        calm = calm_by false (leb 7 place) (edge_of (line_of w) (scl_of item) sda) k.1;
-        phase = refl;
+        calm = calm_by rise fall (edge_of (line_of w) scl sda) k.1;
+        phase = over;
         wire = refl;
         leaves =
-            ap (λ (t : Bool). seen_if t (module_seen c l (Sending byte place) w) (scl_of item) sda) enabled
-            ∙ goes c l (Sending byte place) false (leb 7 place) (λ (x : Bool). Sending byte place) (Sending byte (place + 1)) (λ e x. refl)
-            (λ e. ap (λ (t : Bool). bit_sent_if t l byte place) (lt-ltb place 7 (leb-false 7 place e))) w.mark w.scl w.sda (scl_of item) sda k.1
-            ∙ ap (λ (ph : Phase). module_seen c l ph (sending_goes byte p item).1) (sent_phase byte place w (scl_of item) sda k.1);
+            ap (λ (t : Bool). seen_if t (module_seen c l ph w) scl sda) enabled
+            ∙ goes c l ph rise fall up down rises falls w.mark w.scl w.sda scl sda k.1
+            ∙ ap (λ (x : Phase). module_seen c l x (seen_on w scl sda)) (leads k.1);
       }
+
+  pub sending_goes_lem :
+      (p : Sent) (item : ℕ) → sending_stops p item ≡ false
+      → Sampled c l (Sending p.byte p.place) p.wire item (Sending p.byte (sending_goes p item).place) (sending_goes p item).wire
+  sending_goes_lem p item h =
+      let byte : ℕ = p.byte in let place : ℕ = p.place in
+      goes_over (Sending byte place) _ p.wire item false (leb 7 place) (λ x. Sending byte place) (Sending byte (place + 1)) (λ e x. refl)
+      (λ e. ap (λ (t : Bool). bit_sent_if t l byte place) (lt-ltb place 7 (leb-false 7 place e))) h
+      (sent_phase byte place p.wire (scl_of item) (on_wire (sda_pulled (Sending byte place)) (sda_of item))) refl
 
   -- By phase: where the phase takes bits, these move.
   pub bits_go :
-      (ph : Phase) → takes_bits ph ≡ true → (p : Bits × Seen) (item : ℕ) → taking_stops p item ≡ false
-      → Sampled c l (with_bits ph p.0) p.1 item (with_bits ph (taking_goes p item).0) (taking_goes p item).1
+      (ph : Phase) → takes_bits ph ≡ true → (p : Taken) (item : ℕ) → taking_stops p item ≡ false
+      → Sampled c l (with_bits ph p.bits) p.wire item (with_bits ph (taking_goes p item).bits) (taking_goes p item).wire
   bits_go Quiet t p item h = never t
   bits_go (Address bits low) t p item h =
-      let k = level_goes item h in
-      record {
-        level = k.0;
-        calm = calm_by false (whole p.0) (edge_of (line_of p.1) (scl_of item) (sda_of item)) k.1;
-        phase = refl;
-        wire = refl;
-        leaves = taken_goes (λ (b : Bits). Address b low) p item (λ sda. refl) (λ e. ap (λ (x : Bool). address_fall_if x c l p.0 low) e) k.1;
-      }
+      goes_over (Address p.bits low) _ p.wire item false (whole p.bits) (λ x. Address (pushed p.bits x) low) (Address p.bits low) (λ e sda. refl)
+      (λ e. ap (λ (x : Bool). address_fall_if x c l p.bits low) e) h (λ k. taken_phase (λ (b : Bits). Address b low) p.bits p.wire.scl (scl_of item) (sda_of item)) refl
   bits_go (Data bits true) t p item h = never t
   bits_go (Data bits false) t p item h =
-      let k = level_goes item h in
-      record {
-        level = k.0;
-        calm = calm_by false (whole p.0) (edge_of (line_of p.1) (scl_of item) (sda_of item)) k.1;
-        phase = refl;
-        wire = refl;
-        leaves = taken_goes (λ (b : Bits). Data b false) p item (λ sda. refl) (λ e. ap (λ (x : Bool). data_fall_if x c l p.0 false) e) k.1;
-      }
+      goes_over (Data p.bits false) _ p.wire item false (whole p.bits) (λ x. Data (pushed p.bits x) false) (Data p.bits false) (λ e sda. refl)
+      (λ e. ap (λ (x : Bool). data_fall_if x c l p.bits false) e) h (λ k. taken_phase (λ (b : Bits). Data b false) p.bits p.wire.scl (scl_of item) (sda_of item)) refl
   bits_go (HeldBefore refused which) t p item h = never t
   bits_go (Slot slot which) t p item h = never t
   bits_go HeldForSending t p item h = never t
@@ -210,15 +198,5 @@ module _ (c : Config) (enabled : c.sspen ≡ true) (l : Live) where
       → Sampled c l ph w item ph (resting_goes (scl_pulled ph) (sda_pulled ph) w item)
   rest_goes ph t s w item h =
       let scl : Bool = on_wire (scl_pulled ph) (scl_of item) in let sda : Bool = on_wire (sda_pulled ph) (sda_of item) in
-      let k = level_goes item h in
-      record {
-        level = k.0;
-        calm = calm_by (rise_rule ph l.acktim) (fall_rule ph) (edge_of (line_of w) scl sda) k.1;
-        phase =
-            sym (ap₂ (λ (a b : Bool). cond a (with_bits ph (taken_at (bits_of ph) w scl sda)) (cond b (Sending (bits_of ph).value (place_seen (bits_of ph).count w scl)) ph)) t s);
-        wire = refl;
-        leaves =
-            ap (λ (t : Bool). seen_if t (module_seen c l ph w) scl sda) enabled
-            ∙ goes c l ph (rise_rule ph l.acktim) (fall_rule ph) (λ (x : Bool). ph) ph (rises_by ph t) (falls_by ph t s) w.mark w.scl w.sda scl sda k.1
-            ∙ ap (λ (x : Phase). module_seen c l x (seen_on w scl sda)) (rested_phase ph w.scl scl);
-      }
+      goes_over ph ph w item (rise_rule ph l.acktim) (fall_rule ph) (λ x. ph) ph (rises_by ph t) (falls_by ph t s) h (λ k. rested_phase ph w.scl scl)
+      (sym (ap₂ (λ (a b : Bool). cond a (with_bits ph (taken_at (bits_of ph) w scl sda)) (cond b (Sending (bits_of ph).value (place_seen (bits_of ph).count w scl)) ph)) t s))

@@ -1,17 +1,16 @@
 -- The wire in a stretch: what a level is to it.
-use Rattle.std.specs.Prelude.{ℕ, ◌+◌, ◌%◌, Bool, true, false, cond, ◌&&◌}
+use Rattle.std.specs.Prelude.{ℕ, ◌+◌, ◌%◌, Bool, true, false, cond, ◌&&◌, Some}
 use Rattle.wire.specs.declared.Bits.{Bits}
 use Rattle.wire.specs.declared.Line.{Line}
 use Rattle.wire.specs.declared.Edge.{Edge}
 use Rattle.wire.specs.declared.Edge.TheVariants.{Still, Start, Stop, Rise, Fall}
-use Rattle.wire.specs.declared.Remembered.TheVariants.{Wire}
 use Rattle.wire.specs.Byte.{pushed}
-use Rattle.wire.specs.Wire.{edge_of}
+use Rattle.wire.specs.Wire.{edge_of, wire}
 use Rattle.stretch.specs.declared.Seen.{Seen}
 
 -- A wire that was seen, as a line.
 abbrev pub line_of : Seen → Line
-line_of w = record { remembered = Wire w.scl w.sda; mark = w.mark }
+line_of w = record { remembered = Some (wire w.scl w.sda); mark = w.mark }
 
 -- The wire after a level that is no Start.
 abbrev pub seen_on : Seen → Bool → Bool → Seen

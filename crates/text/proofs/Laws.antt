@@ -89,6 +89,10 @@ module _ (n : ℕ) (p : Page) where
   pub number_one : n < 10 → {q : Page} → q ≡ penned (digit n ∷ []) p → q ≡ penned (decimal n) p
   number_one h e = e ∙ rw (decimal_one n h)
 
+  -- One digit is the last one.
+  pub number_last : n < 10 → {q : Page} → q ≡ penned (digit (n % 10) ∷ []) p → q ≡ penned (decimal n) p
+  number_last h e = let same : n % 10 ≡ n = omega arith in number_one h (rw same at e)
+
   pub number_more : 10 ≤ n → {q r : Page} → q ≡ penned (decimal (n / 10)) p → r ≡ penned (digit (n % 10) ∷ []) q → r ≡ penned (decimal n) p
   number_more h f e = e ∙ rw (f, penned_joined, decimal_more n h)
 

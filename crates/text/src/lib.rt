@@ -1,14 +1,15 @@
-// The report's text: bytes, numbers and lines, put into a lent buffer from a place on.
+//! The report's text: bytes, numbers and lines, put into a lent buffer from a place on.
 #![tactic(auto)]
 
 ghost use Rattle.std.specs.Prelude.{◌≡◌, ◌+◌, ◌<◌, ◌^◌, [], ◌∷◌, length};
 ghost use Rattle.text.specs.Text.{hex_digit, decimal, condition_row, first_letter, byte_row, row_line, event_line, numbered};
-ghost use Rattle.text.specs.Page.{page, penned};
+ghost use Rattle.text.specs.Page.{penned};
+ghost use Rattle.text.specs.Pen.{page_of, HasRoom};
 
 use address::Hit;
 use reader::Heard;
 
-// What an event's line says between its two numbers.
+/// What an event's line says between its two numbers.
 #[derive(Clone, Copy)]
 pub struct Row {
     pub event: u8,
@@ -17,43 +18,90 @@ pub struct Row {
     pub ack: u8,
 }
 
-// One byte at a place of the output, and the place after it. Past the end nothing is kept, but the place goes on: it has to
-// stay below 2 ^ 64, here and wherever a text is put.
-fn put(output: &mut [u8], at: usize, byte: u8) -> usize
-    requires { at + 1 < 2 ^ 64 }
-    ensures { page result output.new ≡ penned (byte ∷ []) (page at output.old) }
-{
-    let next = at + 1;
-    if at < output.len() {
-        output[at] = byte;
-    }
-    next
+/// A lent buffer and the place where the next byte goes. Past the end nothing is kept, but the place goes on: it has to stay
+/// below 2 ^ 64.
+// Stays: what may not change (`lines::write_report` cannot fail; `write!` tells what was written only where it is `Ok`).
+#[derive(Drop)]
+pub struct Pen<'a> {
+    pub output: &'a mut [u8],
+    pub at: usize,
 }
 
-// A text.
-pub fn put_all(output: &mut [u8], at: usize, text: &[u8]) -> usize
-    requires { at + length text.now < 2 ^ 64 }
-    ensures { page result output.new ≡ penned text.now (page at output.old) }
-{
-    let mut i = 0;
-    let mut next = at;
-    while i < text.len() {
-        next = put(output, next, text[i]);
-        i += 1;
+impl Pen<'_> {
+    // One byte.
+    fn put(&mut self, byte: u8)
+        requires { HasRoom (byte ∷ []) self.old }
+        ensures buffer { self.new.output.ghost_name ≡ self.old.output.ghost_name }
+        ensures text { page_of self.new ≡ penned (byte ∷ []) (page_of self.old) }
+    {
+        if self.at < self.output.len() {
+            self.output[self.at] = byte;
+        }
+        self.at += 1;
     }
-    next
-}
 
-// A number in decimal.
-fn put_decimal(output: &mut [u8], at: usize, n: usize) -> usize
-    requires { at + length (decimal n) < 2 ^ 64 }
-    ensures { page result output.new ≡ penned (decimal n) (page at output.old) }
-{
-    if n < 10 {
-        return put(output, at, b'0' + n as u8);
+    /// A text.
+    pub fn put_all(&mut self, text: &[u8])
+        requires { HasRoom text.now self.old }
+        ensures buffer { self.new.output.ghost_name ≡ self.old.output.ghost_name }
+        ensures text { page_of self.new ≡ penned text.now (page_of self.old) }
+    {
+        for &byte in text {
+            self.put(byte);
+        }
     }
-    let next = put_decimal(output, at, n / 10);
-    put(output, next, b'0' + (n % 10) as u8)
+
+    // A number in decimal.
+    fn put_decimal(&mut self, n: usize)
+        requires { HasRoom (decimal n) self.old }
+        ensures buffer { self.new.output.ghost_name ≡ self.old.output.ghost_name }
+        ensures text { page_of self.new ≡ penned (decimal n) (page_of self.old) }
+    {
+        if 10 <= n {
+            self.put_decimal(n / 10);
+        }
+        self.put(b'0' + (n % 10) as u8);
+    }
+
+    /// A line that ends in a number.
+    pub fn put_numbered(&mut self, words: &[u8], n: usize)
+        requires { HasRoom (numbered words.now n) self.old }
+        ensures buffer { self.new.output.ghost_name ≡ self.old.output.ghost_name }
+        ensures text { page_of self.new ≡ penned (numbered words.now n) (page_of self.old) }
+    {
+        self.put_all(words);
+        self.put_decimal(n);
+        self.put(b'\n');
+    }
+
+    // The line of an event.
+    fn put_row(&mut self, item: usize, row: Row, pointer: u16)
+        requires { HasRoom (row_line item row pointer) self.old }
+        ensures buffer { self.new.output.ghost_name ≡ self.old.output.ghost_name }
+        ensures text { page_of self.new ≡ penned (row_line item row pointer) (page_of self.old) }
+    {
+        self.put_decimal(item);
+        let middle = [
+            b' ', row.event, b' ', row.high, row.low, b' ', row.ack, b' ',
+        ];
+        self.put_numbered(&middle, pointer as usize);
+    }
+
+    /// A line where something was heard.
+    pub fn put_event(&mut self, item: usize, heard: Heard, hit: Hit, pointer: u16)
+        requires { HasRoom (event_line item heard hit pointer) self.old }
+        ensures buffer { self.new.output.ghost_name ≡ self.old.output.ghost_name }
+        ensures text { page_of self.new ≡ penned (event_line item heard hit pointer) (page_of self.old) }
+    {
+        match heard {
+            Heard::Silence => {}
+            Heard::Started => self.put_row(item, condition_row(b'S'), pointer),
+            Heard::Stopped => self.put_row(item, condition_row(b'P'), pointer),
+            Heard::Byte(first, byte, level) => {
+                self.put_row(item, byte_row(first, hit, byte, level), pointer)
+            }
+        }
+    }
 }
 
 // In capitals.
@@ -69,7 +117,7 @@ fn condition_row(event: u8) -> Row
     ensures { result ≡ condition_row event }
 {
     Row {
-        event: event,
+        event,
         high: b'-',
         low: b'-',
         ack: b'-',
@@ -81,9 +129,8 @@ fn first_letter(hit: Hit) -> u8
     ensures { result ≡ first_letter hit }
 {
     match hit {
-        Hit::None => b'A',
-        Hit::Own => b'A',
         Hit::GeneralCall => b'G',
+        _ => b'A',
     }
 }
 
@@ -92,59 +139,9 @@ fn byte_row(first: bool, hit: Hit, byte: u8, level: bool) -> Row
     ensures { result ≡ byte_row first hit byte level }
 {
     Row {
-        event: mssp::pick_byte(first, first_letter(hit), b'D'),
+        event: if first { first_letter(hit) } else { b'D' },
         high: hex_digit(byte / 16),
         low: hex_digit(byte % 16),
-        ack: b'0' + (level as u8),
+        ack: b'0' + u8::from(level),
     }
-}
-
-// The line of an event.
-fn put_row(output: &mut [u8], at: usize, item: usize, row: Row, pointer: u16) -> usize
-    requires { at + length (row_line item row pointer) < 2 ^ 64 }
-    ensures { page result output.new ≡ penned (row_line item row pointer) (page at output.old) }
-{
-    let middle = [
-        b' ', row.event, b' ', row.high, row.low, b' ', row.ack, b' ',
-    ];
-    let after_item = put_decimal(output, at, item);
-    let after_row = put_all(output, after_item, &middle);
-    let after_pointer = put_decimal(output, after_row, pointer as usize);
-    put(output, after_pointer, b'\n')
-}
-
-// A line where something was heard.
-pub fn put_event(
-    output: &mut [u8],
-    at: usize,
-    item: usize,
-    heard: Heard,
-    hit: Hit,
-    pointer: u16,
-) -> usize
-    requires { at + length (event_line item heard hit pointer) < 2 ^ 64 }
-    ensures { page result output.new ≡ penned (event_line item heard hit pointer) (page at output.old) }
-{
-    match heard {
-        Heard::Silence => at,
-        Heard::Started => put_row(output, at, item, condition_row(b'S'), pointer),
-        Heard::Stopped => put_row(output, at, item, condition_row(b'P'), pointer),
-        Heard::Byte(first, byte, level) => put_row(
-            output,
-            at,
-            item,
-            byte_row(first, hit, byte, level),
-            pointer,
-        ),
-    }
-}
-
-// A line that ends in a number.
-pub fn put_numbered(output: &mut [u8], at: usize, words: &[u8], n: usize) -> usize
-    requires { at + length (numbered words.now n) < 2 ^ 64 }
-    ensures { page result output.new ≡ penned (numbered words.now n) (page at output.old) }
-{
-    let after_words = put_all(output, at, words);
-    let after_number = put_decimal(output, after_words, n);
-    put(output, after_number, b'\n')
 }

@@ -1,12 +1,10 @@
 -- The ways through a step and a window: what the code knows on each, and what follows.
-use Rattle.std.specs.Prelude.{ℕ, ◌+◌, ◌<◌, ◌≤◌, ◌≡◌, refl, Bool, true, false, not, List, eqb, ltb, length}
+use Rattle.std.specs.Prelude.{ℕ, ◌+◌, ◌<◌, ◌≤◌, ◌≡◌, refl, Bool, true, false, not, Ok, Err, List, eqb, ltb, length}
 use Rattle.std.proofs.Common.{sym, ap, ap₂, ◌∙◌, arith, lt-ltb, le-ltb, eq-eqb, ne_eqb}
 use Rattle.std.proofs.lemmas.Bool.{not-true, not-false}
 use Rattle.truth.specs.Tests.{never}
 use Rattle.refusals.specs.declared.Refusal.TheVariants.{NoWindow, NoItem}
-use Rattle.refusals.specs.declared.Verdict.{Verdict}
-use Rattle.refusals.specs.declared.Verdict.TheVariants.{Done, Refused}
-use Rattle.refusals.specs.Numbers.{accepted}
+use Rattle.refusals.specs.Numbers.{Verdict, accepted}
 use Rattle.items.specs.First.{first_above}
 use Rattle.firmware.specs.declared.State.{State}
 use Rattle.firmware.specs.Handler.{Served, served, called}
@@ -53,7 +51,7 @@ module _ (most : ℕ) (s : State) (buffer : List ℕ) (start n : ℕ) (items : L
     pub work_inside : start + n ≤ length buffer
     work_inside = inside (length buffer) start n s.handler.n refl work_done_lem.0
 
-    pub all_done : {done : Served} {r : State} {left : List ℕ} → served r left ≡ done → window_outcome (Done 0) 0 r left ≡ judged_of most s buffer start n items done
+    pub all_done : {done : Served} {r : State} {left : List ℕ} → served r left ≡ done → window_outcome (Ok 0) 0 r left ≡ judged_of most s buffer start n items done
     all_done {done} e =
         ap work_done e ∙ sym (ap₂ (λ (x y : Bool). checked x y (first_above most items) s buffer done) work_done_lem.0 work_done_lem.1)
 
@@ -64,14 +62,14 @@ module _ (most : ℕ) (s : State) (buffer : List ℕ) (start n : ℕ) (items : L
       → checked a b (first_above most items) s buffer (served s buffer) ≡ judged_of most s buffer start n items (served s buffer)
   chosen a b ea eb = sym (ap₂ (λ (x y : Bool). checked x y (first_above most items) s buffer (served s buffer)) (sym fits ∙ ea) eb)
 
-  pub no_window : not f ≡ true → window_outcome (Refused NoWindow) 0 s buffer ≡ judged_of most s buffer start n items (served s buffer)
+  pub no_window : not f ≡ true → window_outcome (Err NoWindow) 0 s buffer ≡ judged_of most s buffer start n items (served s buffer)
   no_window h = chosen false (ltb (first_above most items) (length items)) (not-true f h) refl
 
   module _ (h : not f ≡ false) {bad : ℕ} (first : bad ≡ first_above most items) where
-    pub no_item : bad < length items → window_outcome (Refused NoItem) bad s buffer ≡ judged_of most s buffer start n items (served s buffer)
+    pub no_item : bad < length items → window_outcome (Err NoItem) bad s buffer ≡ judged_of most s buffer start n items (served s buffer)
     no_item l =
-        ap (λ (k : ℕ). window_outcome (Refused NoItem) k s buffer) first
+        ap (λ (k : ℕ). window_outcome (Err NoItem) k s buffer) first
         ∙ chosen true true (not-false f h) (rw first at (lt-ltb bad (length items) l))
 
-    pub none_bad : length items ≤ bad → window_outcome (Done 0) 0 s buffer ≡ judged_of most s buffer start n items (served s buffer)
+    pub none_bad : length items ≤ bad → window_outcome (Ok 0) 0 s buffer ≡ judged_of most s buffer start n items (served s buffer)
     none_bad l = chosen true false (not-false f h) (rw first at (le-ltb bad (length items) l))

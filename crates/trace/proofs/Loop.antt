@@ -6,8 +6,7 @@ use Rattle.firmware.specs.declared.Handler.{Handler}
 use Rattle.firmware.specs.declared.State.{State}
 use Rattle.firmware.specs.Handler.{Served, served, state_of}
 use Rattle.steps.specs.Step.{after_all}
-use Rattle.samples.specs.declared.Fed.{Fed}
-use Rattle.samples.specs.Samples.{sampled_at, fed_of}
+use Rattle.samples.specs.Samples.{Fed, sampled_at, fed_of}
 use Rattle.samples.proofs.Loop.{lent_from, fed_ended, Running, run_next, run_fed, run_end}
 use Rattle.trace.specs.Run.{byte_step_if, byte_step, run_from}
 use Rattle.trace.proofs.Theorems.{run_length}

@@ -1,7 +1,6 @@
 -- A run over a window of the caller's buffer, and its refusals (01, "Calls, refusals and their order"): 5 before 4.
-use Rattle.std.specs.Prelude.{ℕ, ◌+◌, Bool, true, false, List, ltb, length, take, drop, ◌≡◌}
+use Rattle.std.specs.Prelude.{ℕ, ◌+◌, Bool, true, false, Err, List, ltb, length, take, drop, ◌≡◌}
 use Rattle.refusals.specs.declared.Refusal.TheVariants.{NoWindow, NoItem}
-use Rattle.refusals.specs.declared.Verdict.TheVariants.{Refused}
 use Rattle.firmware.specs.declared.State.{State}
 use Rattle.firmware.specs.Handler.{Served}
 use Rattle.firmware.specs.Window.{window_fits, in_buffer, WindowOutcome, window_outcome, work_done}
@@ -14,8 +13,8 @@ ran_in s buffer start n items = in_buffer (λ bytes. run_of s bytes items) buffe
 -- Work over a window, by whether the window fits and whether an item is bad. Refused, state and buffer stay; beside 4 stands the
 -- first bad item's number.
 abbrev pub checked : Bool → Bool → ℕ → State → List ℕ → Served → WindowOutcome
-checked false bad item s buffer done = window_outcome (Refused NoWindow) 0 s buffer
-checked true true item s buffer done = window_outcome (Refused NoItem) item s buffer
+checked false bad item s buffer done = window_outcome (Err NoWindow) 0 s buffer
+checked true true item s buffer done = window_outcome (Err NoItem) item s buffer
 checked true false item s buffer done = work_done done
 
 -- With items of 0 to the largest.

@@ -1,14 +1,13 @@
 -- A law of the watched wire that a proof cites.
 use Rattle.std.specs.Prelude.{ℕ, ◌≡◌, List}
 use Rattle.std.proofs.Common.{ap, ap₂, ◌∙◌}
-use Rattle.refusals.specs.declared.Verdict.{Verdict}
+use Rattle.refusals.specs.Numbers.{Verdict}
 use Rattle.address.specs.declared.Hit.{Hit}
 use Rattle.firmware.specs.declared.State.{State}
 use Rattle.steps.specs.declared.Item.{Item}
 use Rattle.steps.specs.Step.{Stepped, stepped, step_of}
 use Rattle.watch.specs.declared.World.{World}
-use Rattle.watch.specs.declared.Listened.{Listened}
-use Rattle.watch.specs.Watch.{world_of, watched_of, scene, item_seen, hit_heard, scene_of, scene_after}
+use Rattle.watch.specs.Watch.{Listened, world_of, watched_of, scene, item_seen, hit_heard, scene_of, scene_after}
 
 -- What an item's step leaves, and what the reader made of the item.
 pub item_watched :

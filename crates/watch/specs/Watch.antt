@@ -19,11 +19,15 @@ use Rattle.steps.specs.declared.Item.{Item}
 use Rattle.steps.specs.declared.Item.TheVariants.{Sample, Call, Read, Write, NotAnItem}
 use Rattle.steps.specs.Step.{after}
 use Rattle.watch.specs.declared.World.{World}
-use Rattle.watch.specs.declared.Listened.{Listened}
-use Rattle.watch.specs.declared.Watched.{Watched}
 
 abbrev pub world_of : State → Reader → World
 world_of s reader = record { state = s; reader = reader }
+
+-- The world after an item, what the reader heard at it, and which address a byte that was heard hits.
+pub record Watched : Type 0 where
+  pub world : World
+  pub heard : Heard
+  pub hit : Hit
 
 abbrev pub watched_of : World → Heard → Hit → Watched
 watched_of world heard hit = record { world = world; heard = heard; hit = hit }
@@ -35,6 +39,11 @@ pub record Scene : Type 0 where
 
 abbrev pub scene : Watched → List ℕ → Scene
 scene w memory = record { watched = w; memory = memory }
+
+-- The reader after an item, and what it heard at it.
+pub record Listened : Type 0 where
+  pub reader : Reader
+  pub heard : Heard
 
 abbrev pub listened_of : Reader → Heard → Listened
 listened_of reader heard = record { reader = reader; heard = heard }

@@ -1,3 +1,4 @@
 pub mod Wire
 pub mod Byte
 pub mod Laws
+pub mod Mask

@@ -1,11 +1,10 @@
 -- A word of a drawing (the bits stand in include/wherryoar.h), and one item of a wire record drawn: the handler's call where the
 -- module holds the clock and the record shows SCL high, then the sample, then the word.
-use Rattle.std.specs.Prelude.{ℕ, ◌+◌, ◌*◌, Bool, true, false, cond, ◌&&◌, not, eqb}
+use Rattle.std.specs.Prelude.{ℕ, ◌+◌, ◌*◌, Bool, true, false, cond, ◌&&◌, not, eqb, Option, Some, None}
 use mir.Val.{bool_byte}
 use Rattle.wire.specs.declared.Edge.{Edge}
 use Rattle.wire.specs.declared.Edge.TheVariants.{Still}
-use Rattle.wire.specs.declared.Remembered.{Remembered}
-use Rattle.wire.specs.declared.Remembered.TheVariants.{Nothing, Wire}
+use Rattle.wire.specs.declared.Level.{Level}
 use Rattle.wire.specs.Wire.{scl_of, sda_of, on_wire, edge_of, is_start, is_stop}
 use Rattle.mssp.specs.declared.Phase.{Phase}
 use Rattle.mssp.specs.declared.Live.{Live}
@@ -63,9 +62,9 @@ events_of called stored e conflict = byte_of false false false conflict (is_stop
 abbrev pub lines_by : Bool → Bool → Bool → ℕ
 lines_by pulled scl sda = byte_of false false false false false pulled scl sda
 
-abbrev pub lines_from : Remembered → Bool → ℕ
-lines_from Nothing pulled = lines_by pulled false false
-lines_from (Wire scl sda) pulled = lines_by pulled scl sda
+abbrev pub lines_from : Option Level → Bool → ℕ
+lines_from None pulled = lines_by pulled false false
+lines_from (Some level) pulled = lines_by pulled level.scl level.sda
 
 abbrev pub lines_of : Module → ℕ
 lines_of m = lines_from m.line.remembered (sda_pulled m.phase)

@@ -8,7 +8,7 @@ ghost use Rattle.words.specs.Words.{is_called, storing, met_if, edge_at, in_conf
 
 use firmware::State;
 use mssp::{Module, Phase};
-use wire::{Edge, Remembered};
+use wire::{Edge, Level};
 
 // After an item: the state, the part of its word that stands while nothing but bits and wire move, and the whole word.
 #[derive(Clone, Copy)]
@@ -21,7 +21,7 @@ pub struct Drawn {
 fn is_called(phase: Phase, item: u8) -> bool
     ensures { result ≡ is_called phase item }
 {
-    mssp::pulls_scl(phase) & (item / 2 % 2 == 1)
+    phase.pulls_scl() & Level::from(item).scl
 }
 
 // Whether a call stores a byte: it takes a data byte that is no pointer.
@@ -37,7 +37,7 @@ fn meet(called: bool, s: &mut State, window: &mut [u8])
     ensures { served s.new window.new ≡ met_if called (served s.old window.old) }
 {
     if called {
-        firmware::handle(s, window);
+        s.handle(window);
     }
 }
 
@@ -45,12 +45,9 @@ fn meet(called: bool, s: &mut State, window: &mut [u8])
 fn edge_at(m: Module, item: u8) -> Edge
     ensures { result ≡ edge_at m item }
 {
-    let phase = m.phase;
-    let line = m.line;
-    let scl = !mssp::pulls_scl(phase) & (item / 2 % 2 == 1);
-    let sda = !mssp::pulls_sda(phase) & (item / 1 % 2 == 1);
+    let level = Level::from(item).on_wire(m.phase.pulls_scl(), m.phase.pulls_sda());
     if m.config.sspen {
-        wire::edge_of(line, scl, sda)
+        m.line.edge_of(level)
     } else {
         Edge::Still
     }
@@ -60,55 +57,64 @@ fn edge_at(m: Module, item: u8) -> Edge
 fn is_in_conflict(phase: Phase, item: u8) -> bool
     ensures { result ≡ in_conflict phase item }
 {
-    mssp::pulls_sda(phase) & (item == 3)
+    phase.pulls_sda() & (item == 3)
 }
 
+// Stays: what may not change: docs/STATEMENTS.md names `standing` and `word`, whose bound a type would take from callers.
 // The parts of a word that stand while nothing but bits and wire move, each in its place.
 fn stand(held: u8, number: u8, stat: u8, flags: u8, pointer: u16, buf: u8) -> u64
     ensures { (result ≡ standing_by held number stat flags pointer buf) × (result ≤ most_standing) }
 {
-    (held as u64) * 8
-        + (number as u64) * 16
-        + (stat as u64) * 256
-        + (flags as u64) * 65536
-        + (pointer as u64) * 4294967296
-        + (buf as u64) * 281474976710656
+    u64::from(held) * 8
+        + u64::from(number) * 16
+        + u64::from(stat) * 256
+        + u64::from(flags) * 65536
+        + u64::from(pointer) * 4294967296
+        + u64::from(buf) * 281474976710656
 }
 
 // What of a state's word stands so: the held clock, the phase's number, registers and pointer.
 pub fn standing(s: State) -> u64
     ensures { (result ≡ standing_of s) × (result ≤ most_standing) }
 {
-    let m = s.mssp;
-    let c = m.config;
-    let l = m.live;
-    let phase = m.phase;
-    let held = mssp::pulls_scl(phase) as u8;
-    let number = mssp::phase_number(phase);
-    let stat = register_bytes::stat(c, l, mssp::is_held_for_add(phase));
+    let Module {
+        config,
+        live,
+        phase,
+        ..
+    } = s.mssp;
+    let held = u8::from(phase.pulls_scl());
+    let number = phase.phase_number();
+    let stat = register_bytes::stat(config, live, phase.is_held_for_add());
     let flags = register_bytes::pack(
-        false, false, l.acktim, l.ackstat, c.wcol, l.sspov, l.ckp, l.sspif,
+        false,
+        false,
+        live.acktim,
+        live.ackstat,
+        config.wcol,
+        live.sspov,
+        live.ckp,
+        live.sspif,
     );
-    stand(held, number, stat, flags, s.handler.pointer, l.buf)
+    stand(held, number, stat, flags, s.handler.pointer, live.buf)
 }
 
 // The wire, SCL and SDA, and whether SDA is pulled.
-pub fn lines(pulled: bool, scl: bool, sda: bool) -> u8
-    ensures { result ≡ lines_by pulled scl sda }
+pub fn lines(pulled: bool, level: Level) -> u8
+    ensures { result ≡ lines_by pulled level.scl level.sda }
 {
-    register_bytes::pack(false, false, false, false, false, pulled, scl, sda)
+    register_bytes::pack(
+        false, false, false, false, false, pulled, level.scl, level.sda,
+    )
 }
 
 fn lines_of(m: Module) -> u8
     ensures { result ≡ lines_of m }
 {
-    let phase = m.phase;
-    let line = m.line;
-    let remembered = line.remembered;
-    let pulled = mssp::pulls_sda(phase);
-    match remembered {
-        Remembered::Nothing => lines(pulled, false, false),
-        Remembered::Wire(scl, sda) => lines(pulled, scl, sda),
+    let pulled = m.phase.pulls_sda();
+    match m.line.remembered {
+        None => lines(pulled, Level::from(0)),
+        Some(level) => lines(pulled, level),
     }
 }
 
@@ -116,8 +122,8 @@ fn lines_of(m: Module) -> u8
 pub fn events(called: bool, stored: bool, edge: Edge, conflict: bool) -> u8
     ensures { result ≡ events_of called stored edge conflict }
 {
-    let start = wire::is_start(edge);
-    let stop = wire::is_stop(edge);
+    let start = edge.is_start();
+    let stop = edge.is_stop();
     register_bytes::pack(false, false, false, conflict, stop, start, stored, called)
 }
 
@@ -126,7 +132,7 @@ pub fn word(stands: u64, lines: u8, events: u8) -> u64
     requires { stands ≤ most_standing }
     ensures { result ≡ word_by stands lines events }
 {
-    stands + (lines as u64) + (events as u64) * 4194304
+    stands + u64::from(lines) + u64::from(events) * 4194304
 }
 
 // One item of a record.
@@ -139,7 +145,7 @@ pub fn draw_item(s: &mut State, window: &mut [u8], item: u8) -> Drawn
     let before = s.mssp.phase;
     let edge = edge_at(s.mssp, item);
     let happened = events(called, stored, edge, is_in_conflict(before, item));
-    s.mssp = sampling::sample(s.mssp, item / 2 % 2 == 1, item / 1 % 2 == 1);
+    sampling::sample(&mut s.mssp, Level::from(item));
     let seen = lines_of(s.mssp);
     let stands = standing(*s);
     Drawn {

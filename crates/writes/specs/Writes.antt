@@ -1,21 +1,19 @@
 -- What a write takes, what it does beside that, and why it is refused (01, "Register numbers" and refusals 1 to 3;
 -- 02, 6 and 9).
-use Rattle.std.specs.Prelude.{ℕ, ◌/◌, ◌%◌, Bool, true, false, cond, ◌&&◌, not, List, [], ◌∷◌, eqb}
+use Rattle.std.specs.Prelude.{ℕ, ◌/◌, ◌%◌, Bool, true, false, cond, ◌&&◌, not, Result, Ok, Err, List, [], ◌∷◌, eqb}
 use Rattle.wire.specs.Byte.{bit}
-use Rattle.refusals.specs.Numbers.{accepted, first_cause}
+use Rattle.refusals.specs.Numbers.{Verdict, accepted, first_cause}
 use Rattle.refusals.specs.declared.Refusal.{Refusal}
-use Rattle.refusals.specs.declared.Refusal.TheVariants.{NoRegister, ReservedBit, NoMode, ModeChange, MaskedTenBits}
-use Rattle.refusals.specs.declared.Verdict.{Verdict}
+use Rattle.refusals.specs.declared.Refusal.TheVariants.{ReservedBit, NoMode, ModeChange, MaskedTenBits}
 use Rattle.mssp.specs.declared.Config.{Config}
 use Rattle.mssp.specs.declared.Module.{Module}
 use Rattle.mssp.specs.Module.{module_of, modelled, ten_bits, is_ten_bit, set_stat, set_con1, set_con2, set_con3, set_msk, set_ckp, set_sspov, set_sspif}
 use Rattle.mssp.specs.Valid.{masks_none}
 use Rattle.effects.specs.Effects.{loaded, released, updated, disabled}
 use Rattle.register_bytes.specs.Bytes.{sspm_of}
-use Rattle.registers.specs.Values.{register_of, is_nowhere, is_msk, is_con1, is_con2, is_con3, access_of}
+use Rattle.registers.specs.Values.{register_of, is_msk, is_con1, is_con2, is_con3, Access, access_of}
 use Rattle.registers.specs.declared.Register.{Register}
-use Rattle.registers.specs.declared.Register.TheVariants.{Buf, Stat, Con1, Con2, Con3, Add, Msk, Flag, Nowhere}
-use Rattle.registers.specs.declared.Access.{Access}
+use Rattle.registers.specs.declared.Register.TheVariants.{Buf, Stat, Con1, Con2, Con3, Add, Msk, Flag}
 
 -- STAT takes SMP and CKE.
 abbrev pub stat_written : ℕ → Config → Config
@@ -63,7 +61,6 @@ written Con3 v m = with_config (con3_written v m.config) m
 written Add v m = updated v m
 written Msk v m = with_config (set_msk v m.config) m
 written Flag v m = flag_written v m
-written Nowhere v m = m
 
 -- ---- why a write is refused
 -- A bit of the master is set in CON2, or BOEN in CON3.
@@ -90,15 +87,18 @@ masked_ten r v c =
 -- Why a write is refused, in the paper's order: by the register, the value and the module that it finds.
 abbrev pub write_causes : Register → ℕ → Module → List (Bool × Refusal)
 write_causes r v m =
-    (is_nowhere r, NoRegister) ∷ (sets_reserved r v, ReservedBit) ∷ (is_con1 r && no_mode v, NoMode)
+    (sets_reserved r v, ReservedBit) ∷ (is_con1 r && no_mode v, NoMode)
     ∷ (is_con1 r && mode_change m.config.sspen (sspm_of m.config) v, ModeChange)
     ∷ (masked_ten r v m.config, MaskedTenBits) ∷ []
 
 abbrev pub verdict_of : Register → ℕ → Module → Verdict
 verdict_of r v m = first_cause 0 (write_causes r v m)
 
--- A refused write leaves the module that was given.
+-- A refused write leaves the module that was given. A number that no register has is refused before anything else.
+abbrev pub write_at : Result Register Refusal → ℕ → Module → Access
+write_at (Ok r) v m =
+    let verdict : Verdict = verdict_of r v m in access_of verdict (cond (accepted verdict) (written r v m) m)
+write_at (Err why) v m = access_of (Err why) m
+
 abbrev pub write_of : Module → ℕ → ℕ → Access
-write_of m number v =
-    let verdict : Verdict = verdict_of (register_of number) v m in
-    access_of verdict (cond (accepted verdict) (written (register_of number) v m) m)
+write_of m number v = write_at (register_of number) v m

@@ -1,5 +1,4 @@
 use mathlib.Core.Path.{refl, ap, ap₂}
-use Rattle.image.specs.Image.{state_in}
 use Rattle.image.specs.Theorems.{image_length_lem}
 use Rattle.settling.specs.Laws.{no_image, of_state}
 use Rattle.lanes.specs.Lanes.{Drawing}
@@ -7,10 +6,10 @@ use Rattle.firmware_calls.specs.Calls.{drawn_lent}
 use Rattle.firmware_calls.specs.Laws.{work_settled}
 use Rattle.firmware_calls.proofs.draw.Goals as goal
 
-pub returns-in-NoImage : goal.returns-in-NoImage
-returns-in-NoImage c =
-    let is = ap state_in c.in-NoImage.is in ap₂ drawn_lent (no_image c.decode.ensures _ _ is (simp c.no_state.ensures)) (no_image c.decode.ensures _ _ is refl)
+pub returns-in-None : goal.returns-in-None
+returns-in-None c =
+    let is = c.in-None.is in ap₂ drawn_lent (no_image c.decode.ensures _ _ is (simp c.from.ensures)) (no_image c.decode.ensures _ _ is refl)
 
-pub returns-in-Image : goal.returns-in-Image
-returns-in-Image c =
-    let told = c.in-Image.is in let is = ap state_in told in ap₂ drawn_lent (of_state c.decode.ensures _ _ is (work_settled _ _ _ (image_length_lem _ _ c.decode.ensures told) c.encode-image.ensures (ap (λ (d : Drawing). d.outcome) c.draw_in-drawn.ensures) c.settle.ensures)) (of_state c.decode.ensures _ _ is (ap (λ (d : Drawing). d.lanes) c.draw_in-drawn.ensures))
+pub returns-in-Some : goal.returns-in-Some
+returns-in-Some c =
+    let told = c.in-Some.is in ap₂ drawn_lent (of_state c.decode.ensures _ _ told (work_settled _ _ _ (image_length_lem _ _ c.decode.ensures told) c.encode.ensures (ap (λ (d : Drawing). d.outcome) c.draw_in-drawn.ensures) (rw (← c.without_value.ensures.verdict, ← c.without_value.ensures.item) c.settle.ensures))) (of_state c.decode.ensures _ _ told (ap (λ (d : Drawing). d.lanes) c.draw_in-drawn.ensures))

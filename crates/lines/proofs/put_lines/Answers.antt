@@ -1,25 +1,48 @@
--- `lines::put_lines` meets its contract: the page finished from here is the page finished from the first item.
-use mathlib.Core.Path.{refl, sym, ◌∙◌}
-use native.Mathlib.Omega.{arith}
-use Rattle.lines.proofs.Laws.{play_more, play_end}
+-- The page finished from here is the page finished from the first item.
+use Rattle.std.proofs.Common.{sym, ap, ◌∙◌, arith}
+use Rattle.lines.specs.Report.{Progress, byte_passed}
+use Rattle.lines.specs.Played.{run_of, progress_of}
+use Rattle.lines.proofs.Laws.{item_said, none_said, room_left, line_left, play_more, play_end}
+use Rattle.lines.proofs.put_lines.Goals.{in-Some, in_default}
 use Rattle.lines.proofs.put_lines.Goals as goal
 
-pub loop-i-init : goal.loop-i-init
-loop-i-init c = (omega arith, refl, refl, omega arith, omega arith, c.requires.0, refl)
+pub pass_item-requires-clause-room : goal.pass_item-requires-clause-room
+pass_item-requires-clause-room c =
+    let l = c.loop-byte in
+    let here = sym (item_said c.meaning_of.result (sym c.unwrap_or.ensures ∙ c.in-Some.is)) ∙ c.meaning_of.ensures in
+    omega (
+      arith,
+      c.requires.room,
+      room_left (progress_of l.played l.pen) _ _ _ l.invariant.lines,
+      line_left _ l.byte-index (run_of l.played l.pen) l.played.memory l.pen.output.now c.loop-byte-test.true l.invariant.no_foreign here,
+    )
 
-pub slice_bounds-pass-end : goal.slice_bounds-pass-end
-slice_bounds-pass-end c = sym c.loop-i.invariant.1
+pub loop-byte-preserved : goal.loop-byte-preserved
+loop-byte-preserved c =
+    let l = c.loop-byte in
+    let run = run_of l.played l.pen in
+    let memory = l.played.memory in
+    let output = l.pen.output.now in
+    elim c.match-unwrap_or.branch [
+      | in-Some w ↦
+          let here = sym (item_said c.meaning_of.result (sym c.unwrap_or.ensures ∙ w.in-Some.is)) ∙ c.meaning_of.ensures in
+          let passed = w.pass_item.ensures.passed ∙ ap (byte_passed run memory output) here in
+          let more = play_more _ l.byte-index run memory output c.loop-byte-test.true l.invariant.no_foreign passed in
+          rw (w.played-is, w.pen-is)
+          (record {
+            buffer = w.pass_item.ensures.buffer ∙ l.invariant.buffer;
+            counted = omega (arith, ap (λ (g : Progress). g.run.item) w.pass_item.ensures.passed);
+            no_foreign = more.0;
+            lines = more.1 ∙ l.invariant.lines;
+          })
+      | in_default w ↦
+          let passed = none_said run memory output c.meaning_of.result (sym c.unwrap_or.ensures ∙ w.in_default.is) ∙ ap (byte_passed run memory output) c.meaning_of.ensures in
+          let more = play_more _ l.byte-index run memory output c.loop-byte-test.true l.invariant.no_foreign passed in
+          rw (w.played-is, w.pen-is)
+          (record { buffer = l.invariant.buffer; counted = omega arith; no_foreign = more.0; lines = more.1 ∙ l.invariant.lines })
+    ]
 
-pub loop-i-preserved : goal.loop-i-preserved
-loop-i-preserved c =
-    let l = c.loop-i in
-    let k = play_more _ l.i l.run l.memory l.output (omega arith) l.invariant.5 c.pass-run.ensures.output_after in
-    (omega arith, c.pass-run.auto.memory ∙ l.invariant.1, c.pass-run.auto.output ∙ l.invariant.2, omega arith, omega arith, k.0, k.1 ∙ l.invariant.6)
-
-pub shape_of-output : goal.shape_of-output
-shape_of-output c = c.loop-i.invariant.2
-
-pub returns : goal.returns
-returns c =
-    let l = c.loop-i in
-    record { output_after = play_end _ l.i l.run l.memory l.output c.loop-i-test.false ∙ l.invariant.6; upper_bound = omega arith }
+pub returns-clause-lines : goal.returns-clause-lines
+returns-clause-lines c =
+    let l = c.loop-byte in
+    play_end _ l.byte-index (run_of l.played l.pen) l.played.memory l.pen.output.now c.loop-byte-test.false ∙ l.invariant.lines

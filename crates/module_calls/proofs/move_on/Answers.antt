@@ -19,4 +19,4 @@ save-requires c = long_enough _ c.requires.state_value
 
 pub returns : goal.returns
 returns c =
-    long_way c.args.state.now c.requires.state_value c.args.level c.module_from-m.ensures c.sample-next.ensures c.save.ensures c.done-2.ensures
+    long_way c.args.state.now c.requires.state_value c.args.level c.module_from-m.ensures (rw c.from.ensures at c.sample.ensures) c.save.ensures c.done-2.ensures

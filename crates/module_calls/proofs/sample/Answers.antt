@@ -6,11 +6,11 @@ use Rattle.module_calls.proofs.sample.Goals as goal
 
 pub returns-then-not-is_image : goal.returns-then-not-is_image
 returns-then-not-is_image c =
-    no_image refl _ _ (not_state _ (sym c.is_image.ensures ∙ c.if-not-is_image.true)) (simp c.no_state.ensures)
+    no_image refl _ _ (not_state _ (sym c.is_image.ensures ∙ c.if-not-is_image.true)) (simp c.from.ensures)
 
 pub returns-then-too_high : goal.returns-then-too_high
 returns-then-too_high c =
-    let found = (sym c.is_image.ensures ∙ c.if-not-is_image.false) in of_state refl _ _ (is_state_lem _ found) (level_refused _ _ _ c.if-too_high.true c.refuse.ensures)
+    let found = (sym c.is_image.ensures ∙ c.if-not-is_image.false) in of_state refl _ _ (is_state_lem _ found) (level_refused _ _ _ c.if-too_high.true c.from-then-too_high.ensures)
 
 pub phase_in-phase-requires : goal.phase_in-phase-requires
 phase_in-phase-requires c = long_enough _ (sym c.is_image.ensures ∙ c.if-not-is_image.false)
@@ -24,13 +24,13 @@ move_on-requires c = record { state_value = (sym c.is_image.ensures ∙ c.if-not
 pub move_on-requires-else-is_still : goal.move_on-requires-else-is_still
 move_on-requires-else-is_still c = record { state_value = (sym c.is_image.ensures ∙ c.if-not-is_image.false); level_bound = c.if-too_high.false }
 
-pub returns-in-Nothing : goal.returns-in-Nothing
-returns-in-Nothing c =
+pub returns-in-None : goal.returns-in-None
+returns-in-None c =
     let found = (sym c.is_image.ensures ∙ c.if-not-is_image.false) in of_state refl _ _ (is_state_lem _ found) (level_settled _ _ _ c.if-too_high.false c.move_on.ensures)
 
 pub returns-then-is_still : goal.returns-then-is_still
 returns-then-is_still c =
-    let found = (sym c.is_image.ensures ∙ c.if-not-is_image.false) in of_state refl _ _ (is_state_lem _ found) (level_settled _ _ _ c.if-too_high.false (short_way c.args.state.now found c.args.level c.phase_in-phase.ensures c.line_in-line.ensures c.in-Wire.is c.is_still.ensures c.if-is_still.true c.done.ensures))
+    let found = (sym c.is_image.ensures ∙ c.if-not-is_image.false) in of_state refl _ _ (is_state_lem _ found) (level_settled _ _ _ c.if-too_high.false (short_way c.args.state.now found c.args.level c.phase_in-phase.ensures c.line_in-line.ensures c.in-Some.is c.is_still.ensures c.if-is_still.true c.done.ensures))
 
 pub returns-else-is_still : goal.returns-else-is_still
 returns-else-is_still c =

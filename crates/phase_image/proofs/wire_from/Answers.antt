@@ -1,8 +1,0 @@
-use borrow.Author.Tests.{ne_eqb}
-use Rattle.phase_image.proofs.wire_from.Goals as goal
-
-pub returns-then-byte-eq255 : goal.returns-then-byte-eq255
-returns-then-byte-eq255 c = simp c.if-byte-eq255.true
-
-pub returns-else-byte-eq255 : goal.returns-else-byte-eq255
-returns-else-byte-eq255 c = simp (ne_eqb _ _ c.if-byte-eq255.false)

@@ -1,7 +1,0 @@
-use Rattle.sampling.proofs.data_rise.Goals as goal
-
-pub returns-then-held : goal.returns-then-held
-returns-then-held c = simp c.if-held.true
-
-pub returns-else-held : goal.returns-else-held
-returns-else-held c = simp (c.if-held.false, c.push.ensures)

@@ -1,4 +1,0 @@
-use Rattle.sampling.proofs.start.Goals as goal
-
-pub returns : goal.returns
-returns c = simp c.interrupts.ensures

@@ -1,4 +1,0 @@
-use Rattle.settling.proofs.refuse.Goals as goal
-
-pub returns : goal.returns
-returns c = simp c.number.ensures
