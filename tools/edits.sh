@@ -6,7 +6,8 @@
 #
 # In a crate without code WHO is the theorem that refuses it.
 #
-#     edits.sh contracts            every public contract is named by at least two; public is what a crate's lib.rt offers
+#     edits.sh contracts            every public contract is named by at least two, and two contracts of one name by four; public is
+#                                   what a crate's lib.rt offers, and a conversion (From, TryFrom) is a contract like the others
 #     edits.sh refused [CRATE..]    tries them, by tools/refused.py, and tells of each wrong program and definition what refused
 #                                   it. That proof must have failed by itself: a fact no longer holds. It has not where it only
 #                                   rests on another proof that failed, nor where it no longer fits the code or the definition
@@ -20,20 +21,30 @@ wrongs() { # wrongs EDIT..
     cat "$@" 2>/dev/null | sed -n 's/^# \([a-z0-9_, -]*: .*\)/\1/p'
 }
 
-# One contract or wrong program more was checked; where it is not as it must be, that is told.
-judged() { # judged STATUS WHAT
-    checked=$((checked + 1))
+# So many contracts more were checked; where they are not as they must be, that is told.
+judged() { # judged STATUS HOW-MANY WHAT
+    checked=$((checked + $2))
     [ "$1" -eq 0 ] && return
-    missing=$((missing + 1))
-    echo "NOT SO: $2"
+    missing=$((missing + $2))
+    echo "NOT SO: $3"
+}
+
+# The names of a crate's public contracts, each as often as it has one.
+offered() { # offered CRATE
+    src=crates/$1/src
+    [ -f "$src/lib.rt" ] || return
+    set -- "$src/lib.rt" $(sed -n "s|^pub mod \([a-z0-9_]*\);|$src/\1.rt|p" "$src/lib.rt")
+    sed -n 's/^ *pub \(extern "C" \)\{0,1\}fn \([a-z0-9_]*\).*/\2/p' "$@"
+    sed -n '/^impl \(From\|TryFrom\)</,/^}/s/^    fn \([a-z0-9_]*\).*/\1/p' "$@"
 }
 
 # The public contracts of a crate.
 contracts() { # contracts CRATE
-    for function in $(sed -n 's/^ *pub \(extern "C" \)\{0,1\}fn \([a-z0-9_]*\).*/\2/p' "crates/$1/src/lib.rt" 2>/dev/null); do
+    for named in $(offered "$1" | sort | uniq -c | sed 's/^ *\([0-9]*\) /\1:/'); do
+        number=${named%%:*} function=${named#*:}
         times=$(wrongs "crates/$1"/must-fail/*.edit | sed 's/: .*//; s/ at [a-z0-9_-]*$//; s/.*/, &,/' | grep -c ", $function,")
-        [ "$times" -ge 2 ]
-        judged $? "$1: $function is named by $times"
+        [ "$times" -ge $((2 * number)) ]
+        judged $? "$number" "$1: $function, the name of $number, is named by $times"
     done
 }
 

@@ -14,6 +14,7 @@ use Rattle.refusals.specs.declared.Refusal.{Refusal}
 use Rattle.refusals.specs.declared.Refusal.TheVariants.{NoState, NoRegister, ReservedBit, NoMode, ModeChange, MaskedTenBits, NoWindow, NoItem}
 use Rattle.refusals.specs.Numbers.{Verdict, number_of, first_cause}
 use Rattle.wire.specs.Byte.{bit}
+use Rattle.mssp.specs.declared.Config.{Config}
 use Rattle.mssp.specs.declared.Module.{Module}
 use Rattle.mssp.specs.Module.{modelled, ten_bits, is_ten_bit, setup}
 use Rattle.mssp.specs.Valid.{masks_none}
@@ -319,23 +320,31 @@ module _ {number : ℕ} (r : Register) (is : register_number r ≡ number) (v : 
       rw ((shown_is s h image).0, (shown_is s h image).1)
       (λ t. let k = all.0 t in (k.0, k.1.0.0, k.1.0.1, k.1.1), λ k. all.1 (k.0, ((k.1, k.2), k.3)))
 
-  masked_ten_lem :
-      (h : Host) (s : State) → ImageOf s h.state → (masked_ten r v s.mssp.config ≡ true) ↔ MasksTenBits h number v
-  masked_ten_lem h s image =
-      let c = s.mssp.config in
-      let six = register_is 6 in
-      let runs = both _ (not (masks_none v)) (both c.sspen (is_ten_bit c) (is_one c.sspen) (shown_ten s h image)) (not_equal v 255) in
-      let ten : Bool = ten_bits (bit 2 v) (bit 1 v) (bit 0 v) in
-      let mask : ℕ = c.msk in
-      let enables = both _ (not (masks_none mask)) (both (bit 5 v) ten (is_one (bit 5 v)) (ten_bits_lem v)) (not_equal mask 255) in
-      let by-con1 = both (is_con1 r) (masked (bit 5 v) ten mask) con1 enables in
-      rw ((shown_is s h image).0, ap (λ (shown : View). shown.msk) (look_is s h image)) (
-        λ t.
-            by_test (is_msk r) (λ e. let k = runs.0 (rw e at t) in inr (six.0 e, k.0.0, k.0.1, k.1))
-            (λ e. let k = by-con1.0 (rw e at t) in inl (k.0, k.1.0.0, k.1.0.1, k.1.1)),
-        ⊎_elim (λ k. by_test (is_msk r) (λ e. absurd (omega (arith, six.0 e, k.0))) (λ e. rw e (by-con1.1 (k.0, ((k.1, k.2), k.3)))))
-            (λ k. rw (six.1 k.0) (runs.1 ((k.1, k.2), k.3))),
-      )
+-- Whether a write would run ten bits with a mask, by what the number finds; where it finds no register, nothing is written.
+abbrev masked_by : Result Register Refusal → ℕ → Config → Bool
+masked_by (Ok r) v c = masked_ten r v c
+masked_by (Err why) v c = false
+
+masked_ten_lem :
+    {number : ℕ} {known : Result Register Refusal} → Registered number known → (v : ℕ) (h : Host) (s : State) → ImageOf s h.state
+    → (masked_by known v s.mssp.config ≡ true) ↔ MasksTenBits h number v
+masked_ten_lem (register r is) v h s image =
+    let c = s.mssp.config in
+    let six = register_is r is v 6 in
+    let runs = both _ (not (masks_none v)) (both c.sspen (is_ten_bit c) (is_one c.sspen) (shown_ten s h image)) (not_equal v 255) in
+    let ten : Bool = ten_bits (bit 2 v) (bit 1 v) (bit 0 v) in
+    let mask : ℕ = c.msk in
+    let enables = both _ (not (masks_none mask)) (both (bit 5 v) ten (is_one (bit 5 v)) (ten_bits_lem v)) (not_equal mask 255) in
+    let by-con1 = both (is_con1 r) (masked (bit 5 v) ten mask) (con1 r is v) enables in
+    rw ((shown_is s h image).0, ap (λ (shown : View). shown.msk) (look_is s h image)) (
+      λ t.
+          by_test (is_msk r) (λ e. let k = runs.0 (rw e at t) in inr (omega (arith, six.0 e), k.0.0, k.0.1, k.1))
+          (λ e. let k = by-con1.0 (rw e at t) in inl (k.0, k.1.0.0, k.1.0.1, k.1.1)),
+      ⊎_elim (λ k. by_test (is_msk r) (λ e. absurd (omega (arith, six.0 e, k.0))) (λ e. rw e (by-con1.1 (k.0, ((k.1, k.2), k.3)))))
+          (λ k. rw (six.1 (omega (arith, k.0, is, up_to_seven r))) (runs.1 ((k.1, k.2), k.3))),
+    )
+masked_ten_lem (beyond above) v h s image =
+    (λ t. never t, ⊎_elim (λ k. absurd (omega (arith, k.0, above))) (λ k. absurd (omega (arith, k.0, above))))
 
 -- ---- what each call looks at
 above_looks :
@@ -392,7 +401,7 @@ module _ (h : Host) where
   write_looks s image value (register r is) =
       later (λ above. absurd (omega (arith, is, up_to_seven r)))
       (by_tests 0
-      (one (reserved r is value) (one (no_mode_lem r is value) (one (mode_change_lem r is value h s image) (one (masked_ten_lem r is value h s image) all)))))
+      (one (reserved r is value) (one (no_mode_lem r is value) (one (mode_change_lem r is value h s image) (one (masked_ten_lem (register r is) value h s image) all)))))
   write_looks s image value (beyond above) = here above (λ e. refl, λ e. refl)
 
   looked : (c : DoorCall) → Looks c

@@ -27,11 +27,11 @@ pub fn set_up(state: &mut [u8], add: u8, n: u64) -> Answer
 }
 
 // A call without a value answers 0; beside its refusal no item stands.
-fn without_item(work: Result<(), Refusal>) -> Result<u8, Refused>
-    ensures verdict { told_verdict result ≡ answered work }
+fn without_item(called: Result<(), Refusal>) -> Result<u8, Refused>
+    ensures verdict { told_verdict result ≡ answered called }
     ensures item { told_item result ≡ 0 }
 {
-    work?;
+    called?;
     Ok(0)
 }
 

@@ -3,6 +3,7 @@ ghost use Rattle.std.specs.Prelude.{◌≡◌, ◌≤◌, length};
 ghost use Rattle.image.specs.HandlerPart.{handler_length, handler_part, handler_from, handler_valid, is_handler};
 
 use firmware::Handler;
+use memory::peek;
 
 pub const HANDLER_LENGTH: usize = 5;
 
@@ -17,18 +18,14 @@ pub fn handler_part(h: Handler) -> [u8; HANDLER_LENGTH]
     [n_low, n_high, pointer_low, pointer_high, u8::from(h.due)]
 }
 
-/// The handler that bytes name, whether they begin with its part or not.
+/// The handler that bytes name; bytes past their end are 0.
 pub fn handler_from(b: &[u8]) -> Handler
-    requires { handler_length ≤ length b.now }
     ensures { result ≡ handler_from b.now }
 {
-    let &[n_low, n_high, pointer_low, pointer_high, due] = b
-        .first_chunk::<HANDLER_LENGTH>()
-        .unwrap();
     Handler {
-        n: u16::from_le_bytes([n_low, n_high]),
-        pointer: u16::from_le_bytes([pointer_low, pointer_high]),
-        due: due == 1,
+        n: u16::from_le_bytes([peek(b, 0), peek(b, 1)]),
+        pointer: u16::from_le_bytes([peek(b, 2), peek(b, 3)]),
+        due: peek(b, 4) == 1,
     }
 }
 

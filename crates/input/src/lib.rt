@@ -1,8 +1,8 @@
 //! The report's input: what each byte of it is, and how many items it has.
 #![tactic(auto)]
 
-ghost use Rattle.std.specs.Prelude.{◌≡◌};
-ghost use Rattle.input.specs.Input.{asks_general, meaning_of, checked_of};
+ghost use Rattle.std.specs.Prelude.{◌≡◌, Ok};
+ghost use Rattle.input.specs.Input.{asks_general, meaning_of, item_count, checked_of};
 
 use steps::Item;
 use wire::Level;
@@ -39,6 +39,13 @@ pub fn asks_general(input: &[u8]) -> bool
     input.first() == Some(&b'g')
 }
 
+// 1 for an item, 0 for what is passed over.
+fn item_count(meaning: Option<Item>) -> usize
+    ensures { result ≡ item_count (Ok meaning) }
+{
+    usize::from(meaning.is_some())
+}
+
 /// How many items the input has: all of it, or up to its first foreign byte.
 pub fn check(input: &[u8]) -> Result<usize, Cut>
     ensures { result ≡ checked_of input.now }
@@ -48,7 +55,7 @@ pub fn check(input: &[u8]) -> Result<usize, Cut>
         let Ok(meaning) = meaning_of(byte) else {
             return Err(Cut { items });
         };
-        items += usize::from(meaning.is_some());
+        items += item_count(meaning);
     }
     Ok(items)
 }
