@@ -1,5 +1,5 @@
 -- Laws of the report's input that proofs cite: of what it asks for, of its bytes one by one, and of the items found.
-use Rattle.std.specs.Prelude.{ℕ, suc, ◌+◌, ◌<◌, ◌≤◌, ◌≡◌, refl, Bool, true, false, ◌||◌, List, [], ◌∷◌, Option, Some, None, Ok, Err, is_some, length, drop, get_or}
+use Rattle.std.specs.Prelude.{ℕ, suc, ◌+◌, ◌<◌, ◌≤◌, ◌≡◌, refl, Bool, true, false, ◌||◌, List, [], ◌∷◌, Some, None, Ok, Err, length, drop, get_or}
 use Rattle.std.proofs.Common.{sym, ap, ◌∙◌, true≢false, arith, add-one, add-zero, drop_of_length-le, drop-cons}
 use mir.Val.{bool_byte}
 use Rattle.wire.specs.Laws.{one}
@@ -54,10 +54,6 @@ pub count_at_most : (m : Meaning) → item_count m ≤ 1
 count_at_most (Ok None) = omega arith
 count_at_most (Ok (Some item)) = omega arith
 count_at_most (Err e) = omega arith
-
-pub count_said : (meaning : Option Item) → bool_byte (is_some meaning) ≡ item_count (Ok meaning)
-count_said None = refl
-count_said (Some item) = refl
 
 pub check_start : (input : List ℕ) → counted 0 (parse (drop 0 input)) ≡ checked_of input
 check_start input = counted_start (parse input)
