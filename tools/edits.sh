@@ -44,7 +44,7 @@ contracts() { # contracts CRATE
         number=${named%%:*} function=${named#*:}
         times=$(wrongs "crates/$1"/must-fail/*.edit | sed 's/: .*//; s/ at [a-z0-9_-]*$//; s/.*/, &,/' | grep -c ", $function,")
         [ "$times" -ge $((2 * number)) ]
-        judged $? "$number" "$1: $function, the name of $number, is named by $times"
+        judged $? "$number" "$1: $function, of $number contracts, is named by $times"
     done
 }
 
